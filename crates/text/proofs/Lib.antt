@@ -1,0 +1,9 @@
+pub mod Bools
+pub mod BytesLaws
+pub mod FindLaws
+pub mod FieldLaws
+pub mod NumberLaws
+pub mod PutLaws
+pub mod DecimalLaws
+pub mod Utf8Laws
+pub mod Utf8Joined

@@ -1,0 +1,58 @@
+-- Decimal numbers of a width in bits: an optional single plus, then one or more digits, with leading zeros to any length.
+use Prim.Native.Nat.{ℕ, _+_, _*_, _-_, _^_}
+use mathlib.Core.List.{List, [], _∷_}
+use mathlib.Core.Bool.{Bool, cond, _&&_}
+use lib.Dec.{eqb, ltb, leb}
+use Rattle.text.specs.declared.number.Spelt.{Spelt}
+use Rattle.text.specs.declared.number.Spelt.the-variants as n
+use Rattle.text.specs.declared.number.Number8.{Number8}
+use Rattle.text.specs.declared.number.Number8.the-variants as n8
+use Rattle.text.specs.declared.number.Number16.{Number16}
+use Rattle.text.specs.declared.number.Number16.the-variants as n16
+
+-- the number that a text spells, or none
+pub data Num : Type 0 where
+  some : ℕ → Num
+  none : Num
+
+-- the codes of 0 to 9 are 48 to 57
+abbrev pub isDigit : ℕ → Bool
+isDigit b = leb 48 b && leb b 57
+
+-- the value of digits that stand behind a value so far; none where a byte is no digit
+unfoldable pub digitsFrom : ℕ → List ℕ → Num
+digitsFrom v [] = some v
+digitsFrom v (b ∷ s) = cond (isDigit b) (digitsFrom (v * 10 + (b - 48)) s) none
+
+-- a number that is below the limit
+unfoldable pub under : ℕ → Num → Num
+under limit (some v) = cond (ltb v limit) (some v) none
+under limit none = none
+
+-- one or more digits
+unfoldable pub digits : ℕ → List ℕ → Num
+digits limit [] = none
+digits limit (b ∷ s) = under limit (digitsFrom 0 (b ∷ s))
+
+-- one plus (43) in front of them, or none
+unfoldable pub signed : ℕ → List ℕ → Num
+signed limit [] = none
+signed limit (b ∷ s) = cond (eqb b 43) (digits limit s) (digits limit (b ∷ s))
+
+-- the number of `width` bits that a text spells
+unfoldable pub number : ℕ → List ℕ → Num
+number width s = signed (2 ^ width) s
+
+-- what each answer of the readers says
+abbrev pub shown8 : Number8 → Num
+shown8 (n8.Value n) = some n
+shown8 n8.Refused = none
+
+abbrev pub shown16 : Number16 → Num
+shown16 (n16.Value n) = some n
+shown16 n16.Refused = none
+
+-- the private answer of the code, before the number has its width
+abbrev pub spelt : Spelt → Num
+spelt (n.Value v) = some v
+spelt n.Nothing = none
