@@ -20,7 +20,8 @@ use Rattle.text.specs.declared.field.Next.the-variants as next
 use Rattle.text.proofs.Bools.{and-id}
 use Rattle.text.proofs.FindLaws.{from-at, from-nothing, first-le}
 
-comma : List ℕ → ℕ
+-- the place of the first comma, or the length where there is none
+unfoldable pub comma : List ℕ → ℕ
 comma s = firstOf (44 ∷ []) s
 
 comma-step : (b : ℕ) (s : List ℕ) → comma (b ∷ s) ≡ cond (eqb b 44) 0 (suc (comma s))
@@ -28,7 +29,7 @@ unfolding comma firstOf startsWith
 comma-step b s = rw (and-id (eqb b 44))
 
 -- a text with a comma: what stands before the first one, and the fields of what stands behind it
-fields-comma : (p : ℕ) (s : List ℕ) → comma s < length s
+pub fields-comma : (p : ℕ) (s : List ℕ) → comma s < length s
     → fieldsFrom p s ≡ field p (take (comma s) s) ∷ fieldsFrom (p + comma s + 1) (drop (comma s + 1) s)
 unfolding fieldsFrom
 fields-comma p [] h = absurd (omega arith)
@@ -46,7 +47,7 @@ fields-comma p (b ∷ s) h = go (eqb b 44) refl (rw (comma-step b s) at h) (fiel
         let f : suc (comma s) + 1 ≡ suc (comma s + 1) = omega arith in
         rw (comma-step b s, q, e, f, r (omega arith))
 
-fields-last : (p : ℕ) (s : List ℕ) → length s ≤ comma s → fieldsFrom p s ≡ field p s ∷ []
+pub fields-last : (p : ℕ) (s : List ℕ) → length s ≤ comma s → fieldsFrom p s ≡ field p s ∷ []
 unfolding fieldsFrom
 fields-last p [] h = refl
 fields-last p (b ∷ s) h = go (eqb b 44) (rw (comma-step b s) at h) (fields-last (suc p) s)

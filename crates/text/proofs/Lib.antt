@@ -1,9 +1,12 @@
 pub mod Bools
+pub mod Every
 pub mod BytesLaws
 pub mod FindLaws
 pub mod FieldLaws
+pub mod FieldJoin
 pub mod NumberLaws
 pub mod PutLaws
 pub mod DecimalLaws
 pub mod Utf8Laws
 pub mod Utf8Joined
+pub mod ReadBack

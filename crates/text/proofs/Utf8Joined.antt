@@ -6,11 +6,12 @@ use Prim.Native.Nat.{ℕ, zero, suc, _+_, _≤_, _<_}
 use native.Mathlib.Omega.{arith}
 use native.Mathlib.Nat.{zero-add, suc-add}
 use lib.ListN.{length, length-append}
-use lib.Dec.{leb, eqb}
-use borrow.Author.Tests.{lt-leb, eqb-true, eq-eqb}
+use lib.Dec.{leb, ltb, eqb}
+use borrow.Author.Tests.{lt-leb, ltb-true, eqb-true, eq-eqb}
 use Rattle.text.specs.Utf8.{Range, Row, _‥_, _▸_, fits, inside, rowLen, table, seqLen, next, passed, validUpTo, utf8}
 use Rattle.text.proofs.Bools.{and-left, and-right}
 use Rattle.text.proofs.Utf8Laws.{rowLen-le, ascii, valid-more}
+use Rattle.text.proofs.Every.{every, every-head, every-tail}
 
 fits-append : (rs : List Range) (t u : List ℕ) → fits rs t ≡ true → fits rs (t ++ u) ≡ true
 fits-append [] t u e = refl
@@ -123,3 +124,15 @@ utf8-after x b h e = is-whole b (omega (arith, whole (x ∷ b) e, joined (x ∷ 
   where
     alone : (y : ℕ) → y < 0x80 → validUpTo (y ∷ []) ≡ 1
     alone y l = valid-more (y ∷ []) 0 (seq-plain y [] l) ∙ rw valid-nil
+
+pub utf8-nil : utf8 [] ≡ true
+utf8-nil = is-whole [] valid-nil
+
+-- a byte below 128 in front of UTF-8, and a text of such bytes alone
+pub utf8-plain : (b : ℕ) (s : List ℕ) → b < 0x80 → utf8 s ≡ true → utf8 (b ∷ s) ≡ true
+utf8-plain b s h e = is-whole (b ∷ s) (valid-more (b ∷ s) 0 (seq-plain b s h) ∙ rw (whole s e) (omega arith))
+
+pub utf8-every : (s : List ℕ) → every (λ b. ltb b 0x80) s ≡ true → utf8 s ≡ true
+utf8-every [] h = utf8-nil
+utf8-every (b ∷ s) h =
+    utf8-plain b s (ltb-true b 0x80 (every-head (λ b. ltb b 0x80) b s h)) (utf8-every s (every-tail (λ b. ltb b 0x80) b s h))
