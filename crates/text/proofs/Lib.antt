@@ -10,3 +10,5 @@ pub mod DecimalLaws
 pub mod Utf8Laws
 pub mod Utf8Joined
 pub mod ReadBack
+pub mod OneOutcome
+pub mod WrongPrograms
