@@ -12,3 +12,6 @@ pub mod Utf8Joined
 pub mod ReadBack
 pub mod OneOutcome
 pub mod WrongPrograms
+pub mod Utf8Places
+pub mod Spelling
+pub mod Examples
