@@ -39,7 +39,7 @@ walk-goes-on κs a e start len rest w s p l =
     let z : _≡_ {A = ℕ} 0 1 = cc (second-left) in
     omega arith
 
--- a writer that leaves the buffer as it was and says that it wrote
+-- a writer that leaves the buffer as it was where there is room, whatever it answers
 a-seven : after (hex "00 00") 0 (bytes "7") ≡ hex "37 00"
 unfolding after placed
 a-seven = refl
@@ -52,6 +52,7 @@ writes-something κs a e answer b at s p l =
     let z : _≡_ {A = ℕ} 0 1 = cc in
     omega arith
 
+-- the end that an answer says
 said-end : (end : ℕ) (b : List ℕ) (at : ℕ) (ds : List ℕ) → To end ≡ wrote b at ds → end ≡ at + length ds
 unfolding wrote
 said-end end b at ds q = go (hasRoom b at ds) q

@@ -1,14 +1,8 @@
+-- `fields` is safe and ends: eight turns.
 use Prim.Native.Nat.{_≤_, _-_}
 use borrow.Author.Needs.{needs}
 use Rattle.text_vectors.proofs.calls.fields.Statement.{statement}
 use Rattle.text_vectors.proofs.calls.fields.Tie as tie
-use Rattle.text_vectors.proofs.calls.fields.Reads as reads
-use Rattle.text_vectors.proofs.calls.fields.Lts as lts
-use Rattle.text_vectors.proofs.calls.field.Reads as field-reads
-use Rattle.text_vectors.proofs.show.line.Reads as line-reads
-use Rattle.text_vectors.proofs.show.number.Reads as number-reads
-use Rattle.text_vectors.proofs.show.quoted.Reads as quoted-reads
-use Rattle.text_vectors.proofs.show.say.Reads as say-reads
 
 abbrev Inv-loop : tie.InvT-loop
 Inv-loop s from at₀ turns₀ at turns = turns ≤ 8
@@ -16,63 +10,48 @@ Inv-loop s from at₀ turns₀ at turns = turns ≤ 8
 abbrev μ-loop : tie.MeasureT-loop
 μ-loop s from at₀ turns₀ at turns = 8 - turns
 
--- src/calls.rt:82:9
 slice-aggregate-say : tie.Need-slice-aggregate-say Inv-loop μ-loop
 slice-aggregate-say c = search needs
 
--- src/calls.rt:82:5
 say-requires : tie.Need-say-requires Inv-loop μ-loop
 say-requires c κs = search needs
 
--- src/calls.rt:83:5
 quoted-requires : tie.Need-quoted-requires Inv-loop μ-loop
 quoted-requires c κs = search needs
 
--- src/calls.rt:84:9
 slice-aggregate-say-2 : tie.Need-slice-aggregate-say-2 Inv-loop μ-loop
 slice-aggregate-say-2 c = search needs
 
--- src/calls.rt:84:5
 say-requires-2 : tie.Need-say-requires-2 Inv-loop μ-loop
 say-requires-2 c κs = search needs
 
--- src/calls.rt:85:5
 number-requires : tie.Need-number-requires Inv-loop μ-loop
 number-requires c κs = search needs
 
--- src/calls.rt:86:9
 slice-aggregate-say-3 : tie.Need-slice-aggregate-say-3 Inv-loop μ-loop
 slice-aggregate-say-3 c = search needs
 
--- src/calls.rt:86:5
 say-requires-3 : tie.Need-say-requires-3 Inv-loop μ-loop
 say-requires-3 c κs = search needs
 
--- src/calls.rt:89:5
 loop-holds : tie.Need-loop-holds Inv-loop μ-loop
 loop-holds c = search needs
 
--- src/calls.rt:90:9
 field-requires : tie.Need-field-requires Inv-loop μ-loop
 field-requires c κs = search needs
 
--- src/calls.rt:91:9
 add-turns : tie.Need-add-turns Inv-loop μ-loop
 add-turns c = search needs
 
--- src/calls.rt:89:5
 loop-less : tie.Need-loop-less Inv-loop μ-loop
 loop-less c = search needs
 
--- src/calls.rt:89:5
 loop-again : tie.Need-loop-again Inv-loop μ-loop
 loop-again c = search needs
 
--- src/calls.rt:93:5
 line-requires : tie.Need-line-requires Inv-loop μ-loop
 line-requires c κs = search needs
 
--- src/calls.rt:81:1
 returns : tie.Need-returns Inv-loop μ-loop
 returns c = search needs
 
