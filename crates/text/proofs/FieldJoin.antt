@@ -1,18 +1,17 @@
 -- Fields without a comma, joined by commas and cut again, are the same fields at their places.
-use Prim.Native.Nat.{ℕ, suc, _+_, _≤_, _<_}
+use Prim.Native.Nat.{ℕ, suc, _+_, _<_}
 use mathlib.Core.Path.{_≡_, refl, ap, _∙_}
-use mathlib.Core.List.{List, [], _∷_, _++_, append-nil}
-use mathlib.Core.Bool.{Bool, true, false, not, cond, _&&_}
+use mathlib.Core.List.{List, [], _∷_, _++_}
+use mathlib.Core.Bool.{true, not}
 use native.Mathlib.Omega.{arith}
 use lib.Dec.{eqb}
-use lib.ListN.{length, take, drop, length-append}
+use lib.ListN.{length, length-append}
 use lib.Seq.{take-append-seam, drop-append-add}
 use borrow.Author.Tests.{eq-eqb, ne-eqb}
 use Rattle.text.specs.Bytes.{startsWith}
 use Rattle.text.specs.Find.{firstOf}
 use Rattle.text.specs.Field.{Field, field, fieldsFrom, join}
-use Rattle.text.proofs.Bools.{and-id}
-use Rattle.text.proofs.Every.{every, without, every-tail, without-head}
+use Rattle.text.proofs.Every.{without, every-tail, without-head}
 use Rattle.text.proofs.FieldLaws.{comma, fields-comma, fields-last}
 
 -- the first place of a byte that the text in front does not hold

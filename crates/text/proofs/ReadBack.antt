@@ -1,14 +1,14 @@
 -- What is written in decimal is read back as the same number, and has digits only.
 use mathlib.Core.Path.{_≡_, refl, _∙_}
 use mathlib.Core.List.{List, [], _∷_, _++_}
-use mathlib.Core.Bool.{Bool, true, false, cond, not, _&&_}
-use Prim.Native.Nat.{ℕ, zero, suc, _+_, _-_, _*_, _/_, _%_, _^_, _≤_, _<_}
+use mathlib.Core.Bool.{Bool, true, false, cond, not}
+use Prim.Native.Nat.{ℕ, zero, suc, _+_, _-_, _*_, _/_, _%_, _^_, _<_}
 use native.Mathlib.Omega.{arith}
 use lib.ListN.{length, length-append}
 use lib.Dec.{leb, ltb, eqb}
 use borrow.Author.Tests.{le-leb, lt-ltb, leb-true, ltb-true, ltb-false, ne-eqb}
 use Rattle.text.specs.Decimal.{digitsOf, decimal}
-use Rattle.text.specs.Number.{Num, some, none, isDigit, digitsFrom, under, digits, signed, number}
+use Rattle.text.specs.Number.{some, none, isDigit, digitsFrom, under, digits, signed, number}
 use Rattle.text.specs.Utf8.{utf8}
 use Rattle.text.proofs.Bools.{and-left}
 use Rattle.text.proofs.Every.{every, without, every-nil, every-cons, every-append}

@@ -1,14 +1,14 @@
 -- UTF-8 of two texts end to end, and of a text that is cut before a byte below 128. Assumes nothing.
-use mathlib.Core.Path.{_≡_, refl, _∙_, sym, ap}
+use mathlib.Core.Path.{_≡_, refl, _∙_, ap}
 use mathlib.Core.List.{List, [], _∷_, _++_}
-use mathlib.Core.Bool.{Bool, true, false, cond, _&&_}
+use mathlib.Core.Bool.{Bool, true, false, cond}
 use Prim.Native.Nat.{ℕ, zero, suc, _+_, _≤_, _<_}
 use native.Mathlib.Omega.{arith}
 use native.Mathlib.Nat.{zero-add, suc-add}
 use lib.ListN.{length, length-append}
-use lib.Dec.{leb, ltb, eqb}
+use lib.Dec.{ltb}
 use borrow.Author.Tests.{lt-leb, ltb-true, eqb-true, eq-eqb}
-use Rattle.text.specs.Utf8.{Range, Row, _‥_, _▸_, fits, inside, rowLen, table, seqLen, next, passed, validUpTo, utf8}
+use Rattle.text.specs.Utf8.{Range, Row, _▸_, fits, inside, rowLen, table, seqLen, next, passed, validUpTo, utf8}
 use Rattle.text.proofs.Bools.{and-left, and-right}
 use Rattle.text.proofs.Utf8Laws.{rowLen-le, ascii, valid-more}
 use Rattle.text.proofs.Every.{every, every-head, every-tail}
