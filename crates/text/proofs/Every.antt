@@ -1,19 +1,12 @@
--- A test of every byte of a text, and a text without a certain byte.
+-- Laws of a test of every byte of a text, and of a text without a certain byte.
 use Prim.Native.Nat.{ℕ}
 use mathlib.Core.Path.{_≡_, refl}
 use mathlib.Core.List.{List, [], _∷_, _++_}
 use mathlib.Core.Bool.{Bool, true, not, _&&_}
 use lib.Dec.{eqb}
 use borrow.Author.Tests.{not-true, eqb-false}
+use Rattle.text.specs.Bytes.{every, without}
 use Rattle.text.proofs.Bools.{and-left, and-right}
-
-unfoldable pub every : (ℕ → Bool) → List ℕ → Bool
-every q [] = true
-every q (b ∷ s) = q b && every q s
-
--- no byte of the text is b
-abbrev pub without : ℕ → List ℕ → Bool
-without b s = every (λ x. not (eqb x b)) s
 
 module _ (q : ℕ → Bool) where
   pub every-nil : every q [] ≡ true

@@ -6,6 +6,7 @@ pub mod FieldLaws
 pub mod FieldJoin
 pub mod NumberLaws
 pub mod PutLaws
+pub mod PutAppend
 pub mod DecimalLaws
 pub mod Utf8Laws
 pub mod Utf8Joined

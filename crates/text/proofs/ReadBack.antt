@@ -11,7 +11,8 @@ use Rattle.text.specs.Decimal.{digitsOf, decimal}
 use Rattle.text.specs.Number.{some, none, isDigit, digitsFrom, under, digits, signed, number}
 use Rattle.text.specs.Utf8.{utf8}
 use Rattle.text.proofs.Bools.{and-left}
-use Rattle.text.proofs.Every.{every, without, every-nil, every-cons, every-append}
+use Rattle.text.specs.Bytes.{every, without}
+use Rattle.text.proofs.Every.{every-nil, every-cons, every-append}
 use Rattle.text.proofs.Utf8Joined.{utf8-every}
 
 -- Digits

@@ -10,7 +10,8 @@ use lib.Dec.{eqb, ltb, leb}
 use borrow.Author.Tests.{eqb-true, eqb-false, leb-true}
 use Rattle.text.specs.Decimal.{decimal}
 use Rattle.text.specs.Number.{Num, some, none, isDigit, digitsFrom, under, digits, signed, number}
-use Rattle.text.proofs.Every.{every, every-nil, every-cons}
+use Rattle.text.specs.Bytes.{every}
+use Rattle.text.proofs.Every.{every-nil, every-cons}
 use Rattle.text.proofs.Bools.{and-left, and-right}
 use Rattle.text.proofs.DecimalLaws.{decimal-one, onto-last, onto-more}
 use Rattle.text.proofs.ReadBack.{digit-first, plain-read, plus-read, decimal-value, decimal-length}
