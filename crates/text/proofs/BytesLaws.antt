@@ -5,10 +5,10 @@ use mathlib.Core.List.{List, [], _∷_, _++_}
 use mathlib.Core.Bool.{Bool, true, false, _&&_, false≢true}
 use native.Mathlib.Omega.{arith}
 use native.Mathlib.Numerals.{add-one}
-use lib.Dec.{eqb}
+use lib.Dec.{eqb, leb}
 use lib.ListN.{length, take, drop, getD, drop-of-length-le, length-drop}
 use lib.Seq.{drop-cons, take-all, getD-drop}
-use borrow.Author.Tests.{eq-eqb, ne-eqb, eqb-true}
+use borrow.Author.Tests.{eq-eqb, ne-eqb, eqb-true, le-leb, lt-leb, leb-true, leb-false}
 use Rattle.text.specs.Bytes.{same, startsWith}
 use Rattle.text.proofs.Bools.{and-false, and-left, and-right}
 
@@ -88,3 +88,11 @@ starts-split (x ∷ s) (y ∷ t) e =
 -- `&s[a..]` is the rest from a
 pub rest-all : (s : List ℕ) (a : ℕ) → take (length s - a) (drop a s) ≡ drop a s
 rest-all s a = take-all (length s - a) (drop a s) (simp length-drop (omega arith))
+
+-- what is left behind a place has room for so much
+pub leb-left : (n start len : ℕ) → start ≤ n → leb len (n - start) ≡ leb (start + len) n
+leb-left n start len h = go (leb len (n - start)) refl
+  where
+    go : (t : Bool) → leb len (n - start) ≡ t → t ≡ leb (start + len) n
+    go true e = sym (le-leb (start + len) n (omega (arith, leb-true len (n - start) e)))
+    go false e = sym (lt-leb (start + len) n (omega (arith, leb-false len (n - start) e)))

@@ -15,7 +15,9 @@ use Rattle.text.specs.declared.field.Fields.{Fields}
 use Rattle.text.proofs.bytes.same as same
 use Rattle.text.proofs.bytes.starts_at as starts_at
 use Rattle.text.proofs.bytes.part as part
+use Rattle.text.proofs.bytes.has_part as has_part
 use Rattle.text.proofs.find.first_byte as first_byte
+use Rattle.text.proofs.find.lacks as lacks
 use Rattle.text.proofs.find.first_crlf as first_crlf
 use Rattle.text.proofs.find.last_crlf as last_crlf
 use Rattle.text.proofs.field.Fields.from as from
@@ -24,6 +26,7 @@ use Rattle.text.proofs.field.Fields.next as next_field
 use Rattle.text.proofs.number.read8 as read8
 use Rattle.text.proofs.number.read16 as read16
 use Rattle.text.proofs.put.put as put
+use Rattle.text.proofs.decimal.width as width
 use Rattle.text.proofs.decimal.write8 as write8
 use Rattle.text.proofs.decimal.write16 as write16
 use Rattle.text.proofs.utf8.valid_up_to as valid_up_to
@@ -45,12 +48,21 @@ one-same κs a x y s t p q = only p q
 pub one-starts-at : One 2 starts_at.Kinds.ps starts_at.Kinds.r starts_at.Reads.Post (λ κs x s. x)
 one-starts-at κs a x y s t p q = only p q
 
+pub one-has-part : One 1 has_part.Kinds.ps has_part.Kinds.r has_part.Reads.Post (λ κs x s. x)
+one-has-part κs a x y s t p q = only p q
+
 -- the bytes of the part that is lent
 pub one-part : One 1 part.Kinds.ps part.Kinds.r part.Reads.Post (λ κs x s. x .now)
 one-part κs a x y s t p q = only p q
 
 pub one-first-byte : One 1 first_byte.Kinds.ps first_byte.Kinds.r first_byte.Reads.Post (λ κs x s. x)
 one-first-byte κs a x y s t p q = only p q
+
+pub one-lacks : One 1 lacks.Kinds.ps lacks.Kinds.r lacks.Reads.Post (λ κs x s. x)
+one-lacks κs a x y s t p q = only p q
+
+pub one-width : One 0 width.Kinds.ps width.Kinds.r width.Reads.Post (λ κs x s. x)
+one-width κs a x y s t p q = only p q
 
 pub one-first-crlf : One 1 first_crlf.Kinds.ps first_crlf.Kinds.r first_crlf.Reads.Post (λ κs x s. x)
 one-first-crlf κs a x y s t p q = only p q

@@ -1,6 +1,8 @@
 // Two slices compared, and a part of a slice.
 ghost use mathlib.Core.Path.{_≡_};
-ghost use lib.ListN.{drop};
+ghost use Prim.Native.Nat.{_+_};
+ghost use lib.Dec.{leb};
+ghost use lib.ListN.{length, drop};
 ghost use Rattle.text.specs.Bytes.{same as sameBytes, startsWith, part as partOf};
 
 // Whether `a` and `b` hold the same bytes.
@@ -38,6 +40,16 @@ pub fn starts_at(s: &[u8], at: usize, t: &[u8]) -> bool
         i += 1;
     }
     true
+}
+
+// Whether `s` has `len` bytes from `start` on.
+pub fn has_part(s: &[u8], start: usize, len: usize) -> bool
+    ensures { λ r. ⌜ r ≡ leb (start + len) (length (now (s .entry))) ⌝ }
+{
+    if s.len() < start {
+        return false;
+    }
+    len <= s.len() - start
 }
 
 // The bytes from `start` on, `len` of them or as many as there are.

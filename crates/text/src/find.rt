@@ -1,6 +1,7 @@
 // The first place of a byte, and the first and the last place of CR LF.
 ghost use mathlib.Core.Path.{_≡_};
 ghost use mathlib.Core.List.{[], _∷_};
+ghost use Rattle.text.specs.Bytes.{without};
 ghost use Rattle.text.specs.Find.{crlf, firstFrom, lastOf};
 use crate::bytes::starts_at;
 
@@ -21,6 +22,16 @@ pub fn first_byte(s: &[u8], from: usize, b: u8) -> Found
         i += 1;
     }
     Found::Nothing
+}
+
+// Whether no byte of `s` is `b`.
+pub fn lacks(s: &[u8], b: u8) -> bool
+    ensures { λ r. ⌜ r ≡ without b (now (s .entry)) ⌝ }
+{
+    match first_byte(s, 0, b) {
+        Found::At(_) => false,
+        Found::Nothing => true,
+    }
 }
 
 // The first CR LF at the place `from` or after it.
