@@ -6,62 +6,22 @@ ghost use lib.ListN.{drop};
 ghost use Rattle.text.specs.Utf8.{_‥_, fits, rowLen, table, seqLen, validUpTo, utf8, insideCharacter};
 ghost use Rattle.text.specs.Utf8Steps.{going, asks};
 
-// What a lead byte asks: a sequence of `len` bytes, whose second lies in lo..=hi; no sequence where `len` is 0.
-struct Row {
-    len: usize,
-    lo: u8,
-    hi: u8,
-}
+// What a lead byte asks: the length of its sequence, 0 where there is none, and the range of its second byte.
+struct Row(usize, u8, u8);
 
 fn row_of(b: u8) -> Row
-    ensures { λ r. ⌜ (r .len ≤ 4) × ((t : List ℕ) → rowLen table b t ≡ asks (r .len) (r .lo) (r .hi) t) ⌝ }
+    ensures { λ r. ⌜ (r .0 ≤ 4) × ((t : List ℕ) → rowLen table b t ≡ asks (r .0) (r .1) (r .2) t) ⌝ }
 {
     match b {
-        0x00..=0x7F => Row {
-            len: 1,
-            lo: 0,
-            hi: 0,
-        },
-        0xC2..=0xDF => Row {
-            len: 2,
-            lo: 0x80,
-            hi: 0xBF,
-        },
-        0xE0 => Row {
-            len: 3,
-            lo: 0xA0,
-            hi: 0xBF,
-        },
-        0xE1..=0xEC | 0xEE..=0xEF => Row {
-            len: 3,
-            lo: 0x80,
-            hi: 0xBF,
-        },
-        0xED => Row {
-            len: 3,
-            lo: 0x80,
-            hi: 0x9F,
-        },
-        0xF0 => Row {
-            len: 4,
-            lo: 0x90,
-            hi: 0xBF,
-        },
-        0xF1..=0xF3 => Row {
-            len: 4,
-            lo: 0x80,
-            hi: 0xBF,
-        },
-        0xF4 => Row {
-            len: 4,
-            lo: 0x80,
-            hi: 0x8F,
-        },
-        _ => Row {
-            len: 0,
-            lo: 0,
-            hi: 0,
-        },
+        0x00..=0x7F => Row(1, 0, 0),
+        0xC2..=0xDF => Row(2, 0x80, 0xBF),
+        0xE0 => Row(3, 0xA0, 0xBF),
+        0xE1..=0xEC | 0xEE..=0xEF => Row(3, 0x80, 0xBF),
+        0xED => Row(3, 0x80, 0x9F),
+        0xF0 => Row(4, 0x90, 0xBF),
+        0xF1..=0xF3 => Row(4, 0x80, 0xBF),
+        0xF4 => Row(4, 0x80, 0x8F),
+        _ => Row(0, 0, 0),
     }
 }
 
@@ -104,11 +64,11 @@ fn sequence(s: &[u8], i: usize) -> usize
         return 0;
     }
     let row = row_of(s[i]);
-    let n = row.len;
+    let n = row.0;
     if n < 2 {
         return n;
     }
-    if !byte_in(s, i + 1, row.lo, row.hi) {
+    if !byte_in(s, i + 1, row.1, row.2) {
         return 0;
     }
     if !goes_on(s, i + 2, n - 2) {
