@@ -4,6 +4,8 @@ pub mod BytesLaws
 pub mod FindLaws
 pub mod FieldLaws
 pub mod FieldJoin
+pub mod WalkLaws
+pub mod WalkOwned
 pub mod NumberLaws
 pub mod PutLaws
 pub mod PutAppend

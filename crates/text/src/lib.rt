@@ -6,3 +6,4 @@ pub mod find;
 pub mod number;
 pub mod put;
 pub mod utf8;
+pub mod walk;
