@@ -6,10 +6,10 @@ use mathlib.Core.Bool.{Bool, true, false, _&&_, false≢true}
 use native.Mathlib.Omega.{arith}
 use native.Mathlib.Numerals.{add-one}
 use lib.Dec.{eqb, leb}
-use lib.ListN.{length, take, drop, getD, drop-of-length-le, length-drop}
+use lib.ListN.{length, take, drop, getD, drop-of-length-le, length-drop, length-append}
 use lib.Seq.{drop-cons, take-all, getD-drop}
 use borrow.Author.Tests.{eq-eqb, ne-eqb, eqb-true, le-leb, lt-leb, leb-true, leb-false}
-use Rattle.text.specs.Bytes.{same, startsWith}
+use Rattle.text.specs.Bytes.{same, startsWith, part}
 use Rattle.text.proofs.Bools.{and-false, and-left, and-right}
 
 pub same-length : (a b : List ℕ) → (length a ≡ length b → ⊥) → same a b ≡ false
@@ -96,3 +96,19 @@ leb-left n start len h = go (leb len (n - start)) refl
     go : (t : Bool) → leb len (n - start) ≡ t → t ≡ leb (start + len) n
     go true e = sym (le-leb (start + len) n (omega (arith, leb-true len (n - start) e)))
     go false e = sym (lt-leb (start + len) n (omega (arith, leb-false len (n - start) e)))
+
+-- a text as long as another starts with it exactly where it is it
+pub same-starts : (s t : List ℕ) → length s ≡ length t → same s t ≡ startsWith s t
+unfolding same startsWith
+same-starts [] [] h = refl
+same-starts [] (y ∷ t) h = absurd (omega arith)
+same-starts (x ∷ s) [] h = absurd (omega arith)
+same-starts (x ∷ s) (y ∷ t) h = rw (same-starts s t (omega arith))
+
+pub starts-length : (s t : List ℕ) → startsWith s t ≡ true → length t ≤ length s
+starts-length s t e = omega (arith, length-append t (drop (length t) s), ap length (starts-split s t e))
+
+-- a part to the text's end is the rest from its start
+pub part-rest : (s : List ℕ) (a : ℕ) → part s a (length s) ≡ drop a s
+unfolding part
+part-rest s a = take-all (length s) (drop a s) (simp length-drop (omega arith))

@@ -1,0 +1,13 @@
+pub mod EventLaws
+pub mod FieldLaws
+pub mod LineLaws
+pub mod BinaryLaws
+pub mod ResponseLaws
+pub mod Answers
+pub mod Refusals
+pub mod ResponseAnswers
+pub mod W26Answers
+pub mod W36Answers
+pub mod OneOutcome
+pub mod WrongReaders
+pub mod Examples

@@ -1,0 +1,19 @@
+-- `w36::socket_event` meets its contract: each name has its own row. Assumes nothing.
+use borrow.Author.Needs.{needs}
+use Rattle.at.proofs.w36.socket_event.Statement.{statement}
+use Rattle.at.proofs.w36.socket_event.Tie as tie
+
+enum-told : tie.Need-enum-told
+enum-told c = search needs
+
+enum-told-2 : tie.Need-enum-told-2
+enum-told-2 c = search needs
+
+returns : tie.Need-returns
+returns c = rw (c .enum-told .given .1)
+
+returns-2 : tie.Need-returns-2
+returns-2 c = rw (c .enum-told2 .given .1)
+
+pub socket-event-spec : {M : Type 1} → statement M
+socket-event-spec = tie.close (tie.spec enum-told enum-told-2 returns returns-2)
