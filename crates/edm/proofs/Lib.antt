@@ -1,0 +1,7 @@
+pub mod Refusals
+pub mod FrameLaws
+pub mod PacketAnswers
+pub mod CommandLaws
+pub mod CommandAnswers
+pub mod WrittenRead
+pub mod Examples

@@ -1,0 +1,5 @@
+pub mod Refusal
+pub mod Packet
+pub mod Payload
+pub mod Frame
+pub mod Command

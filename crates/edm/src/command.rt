@@ -1,0 +1,124 @@
+// A command packet, written as an EDM frame.
+use crate::EdmPacket;
+use crate::EdmPacketError;
+use crate::WriteAnswer;
+use text::bytes::has_part;
+use text::bytes::part;
+use text::put::put;
+use text::utf8::is_utf8;
+ghost use mathlib.Core.Path.{_≡_};
+ghost use mathlib.Core.List.{_∷_, _++_};
+ghost use Prim.Native.Nat.{_+_, _≤_};
+ghost use lib.ListN.{length};
+ghost use Rattle.edm.specs.Command.{command, inSource, requestOf, fitted, toWrite, refusal, shown, Writes};
+
+// The frame of an identifier whose payload is `before`, `body` and `behind`.
+fn write_frame(
+    buf: &mut [u8],
+    identifier: u8,
+    before: &[u8],
+    body: &[u8],
+    behind: &[u8],
+) -> WriteAnswer
+    requires { ⌜ (6 ≤ length (now buf)) × (length (now before) + length (now behind) ≤ 1) ⌝ }
+    ensures { λ r. ⌜ Writes (now (buf .entry)) (fitted (length (now (buf .entry))) (command identifier (now (before .entry) ++ now (body .entry) ++ now (behind .entry)))) r (now (buf .exit)) ⌝ }
+{
+    if 4093 < body.len() {
+        return WriteAnswer::Refused(EdmPacketError::PacketEncodePayloadSizeInvalid);
+    }
+    let n = before.len() + body.len() + behind.len();
+    if 4093 < n {
+        return WriteAnswer::Refused(EdmPacketError::PacketEncodePayloadSizeInvalid);
+    }
+    if buf.len() - 6 < n {
+        return WriteAnswer::Refused(EdmPacketError::PacketEncodePayloadSizeInvalid);
+    }
+    let length = n + 2;
+    let head = [
+        0xAAu8,
+        (length / 256 % 256) as u8,
+        (length % 256) as u8,
+        0,
+        identifier,
+    ];
+    put(buf, 0, &head);
+    put(buf, 5, before);
+    put(buf, 5 + before.len(), body);
+    put(buf, 5 + before.len() + body.len(), behind);
+    let tail = [0x55u8];
+    put(buf, 5 + n, &tail);
+    WriteAnswer::Wrote(n + 6)
+}
+
+fn write_data(buf: &mut [u8], src: &[u8], channel: u8, start: usize, len: usize) -> WriteAnswer
+    requires { ⌜ 6 ≤ length (now buf) ⌝ }
+    ensures { λ r. ⌜ Writes (now (buf .entry)) (fitted (length (now (buf .entry))) (inSource (now (src .entry)) start len (λ t. command 0x36 (channel ∷ t)))) r (now (buf .exit)) ⌝ }
+{
+    if has_part(src, start, len) {
+        let first = [channel];
+        write_frame(buf, 0x36, &first, part(src, start, len), part(src, 0, 0))
+    } else {
+        WriteAnswer::Refused(EdmPacketError::PacketEncodePayloadSizeInvalid)
+    }
+}
+
+fn write_request(buf: &mut [u8], src: &[u8], start: usize, len: usize) -> WriteAnswer
+    requires { ⌜ 6 ≤ length (now buf) ⌝ }
+    ensures { λ r. ⌜ Writes (now (buf .entry)) (fitted (length (now (buf .entry))) (inSource (now (src .entry)) start len requestOf)) r (now (buf .exit)) ⌝ }
+{
+    if has_part(src, start, len) {
+        let text = part(src, start, len);
+        if is_utf8(text) {
+            let cr = [13u8];
+            write_frame(buf, 0x44, part(src, 0, 0), text, &cr)
+        } else {
+            WriteAnswer::Refused(EdmPacketError::AtRequestEventDecodeError)
+        }
+    } else {
+        WriteAnswer::Refused(EdmPacketError::PacketEncodePayloadSizeInvalid)
+    }
+}
+
+fn no_command() -> WriteAnswer
+    ensures { λ r. ⌜ shown r ≡ refusal 9 ⌝ }
+{
+    WriteAnswer::Refused(EdmPacketError::PacketEncodeTypeUnknown)
+}
+
+// The frame of a command packet, whose text or data is a place in `src`.
+pub fn write(buf: &mut [u8], src: &[u8], p: EdmPacket) -> WriteAnswer
+    ensures { λ r. ⌜ Writes (now (buf .entry)) (toWrite (length (now (buf .entry))) (now (src .entry)) p) r (now (buf .exit)) ⌝ }
+{
+    if buf.len() < 6 {
+        return WriteAnswer::Refused(EdmPacketError::PacketDecodeTargetMemorySizeInvalid);
+    }
+    match p {
+        EdmPacket::DataCommand { channel, data } => write_data(
+            buf,
+            src,
+            channel.0,
+            data.start,
+            data.len,
+        ),
+        EdmPacket::ATRequest(t) => write_request(buf, src, t.start, t.len),
+        EdmPacket::ResendConnectEvents => write_frame(
+            buf,
+            0x56,
+            part(src, 0, 0),
+            part(src, 0, 0),
+            part(src, 0, 0),
+        ),
+        EdmPacket::ConnectEvent {
+            channel: _,
+            event: _,
+        } => no_command(),
+        EdmPacket::DisconnectEvent { channel: _ } => no_command(),
+        EdmPacket::DataEvent {
+            channel: _,
+            data: _,
+        } => no_command(),
+        EdmPacket::ATResponse(_) => no_command(),
+        EdmPacket::ATEvent(_) => no_command(),
+        EdmPacket::StartEvent => no_command(),
+    }
+}
