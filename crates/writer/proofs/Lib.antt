@@ -1,0 +1,14 @@
+pub mod EventPlans
+pub mod Examples
+pub mod FieldsLaws
+pub mod FirmwareAccepted
+pub mod FirmwareBinary
+pub mod FirmwareEvents
+pub mod FirmwareFields
+pub mod FirmwarePrograms
+pub mod FirmwareStillRead
+pub mod FirmwareText
+pub mod OneOutcome
+pub mod PlanLaws
+pub mod RoomLaws
+pub mod WriterAnswers

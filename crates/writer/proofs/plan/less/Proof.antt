@@ -1,0 +1,13 @@
+-- `plan::less` meets its contract. Assumes nothing.
+use borrow.Author.Tests.{le-leb, lt-leb}
+use Rattle.writer.proofs.plan.less.Statement.{statement}
+use Rattle.writer.proofs.plan.less.Tie as tie
+
+returns : tie.Need-returns
+returns c = rw (le-leb _ _ (c .if1 .taken))
+
+returns-2 : tie.Need-returns-2
+returns-2 c = rw (lt-leb _ _ (c .if1 .left))
+
+pub less-spec : {M : Type 1} → statement M
+less-spec = tie.close (tie.spec returns returns-2)

@@ -1,0 +1,4 @@
+pub mod Line
+pub mod Write
+pub mod Firmware
+pub mod Steps
