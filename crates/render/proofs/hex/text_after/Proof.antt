@@ -1,0 +1,28 @@
+-- `text_after` keeps to its place: each call puts its text behind the one before.
+use borrow.Author.Needs.{needs}
+use Rattle.render.proofs.BetweenLaws.{joined}
+use Rattle.render.proofs.hex.text_after.Statement.{statement}
+use Rattle.render.proofs.hex.text_after.Tie as tie
+
+slice-aggregate-word : tie.Need-slice-aggregate-word
+slice-aggregate-word c = search needs
+
+word-requires : tie.Need-word-requires
+word-requires c κs = search needs
+
+part-requires : tie.Need-part-requires
+part-requires c κs = search needs
+
+hex-requires : tie.Need-hex-requires
+hex-requires c κs = search needs
+
+same-length : tie.Need-same-length
+same-length c = search needs
+
+returns : tie.Need-returns
+returns c = joined (c .before .before .before .before .before .before .before .word .ensures) (c .before .before .hex .ensures)
+
+pub text-after-spec : {M : Type 1} → statement M
+text-after-spec =
+    tie.close
+    (tie.spec slice-aggregate-word word-requires part-requires hex-requires same-length returns)

@@ -1,0 +1,30 @@
+-- `data_available` keeps to its place: each call puts its text behind the one before.
+use borrow.Author.Needs.{needs}
+use Rattle.render.proofs.BetweenLaws.{joined}
+use Rattle.render.proofs.w36.data_available.Statement.{statement}
+use Rattle.render.proofs.w36.data_available.Tie as tie
+
+slice-aggregate-of-socket : tie.Need-slice-aggregate-of-socket
+slice-aggregate-of-socket c = search needs
+
+of-socket-requires : tie.Need-of-socket-requires
+of-socket-requires c κs = search needs
+
+number-after-requires : tie.Need-number-after-requires
+number-after-requires c κs = search needs
+
+same-length : tie.Need-same-length
+same-length c = search needs
+
+returns : tie.Need-returns
+returns c = joined (c .before .before .before .before .before .before .of-socket .ensures) (c .before .before .number-after .ensures)
+
+pub data-available-spec : {M : Type 1} → statement M
+data-available-spec =
+    tie.close
+    (tie.spec
+    slice-aggregate-of-socket
+    of-socket-requires
+    number-after-requires
+    same-length
+    returns)

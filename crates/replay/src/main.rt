@@ -1,0 +1,35 @@
+// Reads questions from standard input, a line each, and prints an answer for each: what a frame or a line of a radio means, or what is
+// written for a command or an event.
+mod answer;
+mod decode;
+mod input;
+mod question;
+mod session;
+
+use crate::session::Session;
+use crate::session::finish;
+use crate::session::turn;
+
+// A proved loop has to end, and nothing says that the input does. So the loop counts its turns down, from a number that no run uses up.
+fn run(input: &mut [u8], output: &mut [u8], bytes: &mut [u8], target: &mut [u8]) {
+    let mut s = Session::new();
+    let mut turns = u64::MAX;
+    while 0 < turns {
+        if !s.is_reading || !s.is_writing {
+            break;
+        }
+        s = turn(input, output, bytes, target, s);
+        turns -= 1;
+    }
+    finish(input, output, bytes, target, s);
+}
+
+// The input holds a longest line and what is read behind it, the output an answer to a longest line and those before it. The bytes that a
+// line spells are half as many as its digits, and a written frame or event has no more than the largest SIZE.
+fn main() {
+    let mut input = [0u8; 524288];
+    let mut output = [0u8; 524288];
+    let mut bytes = [0u8; 131072];
+    let mut target = [0u8; 131072];
+    run(&mut input, &mut output, &mut bytes, &mut target);
+}

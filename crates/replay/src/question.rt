@@ -1,0 +1,155 @@
+// What a line asks.
+use crate::decode::Number;
+use crate::decode::decimal;
+use text::bytes::part;
+use text::bytes::same;
+use text::find::Found;
+use text::find::first_byte;
+
+pub enum Reader {
+    Frame,
+    W26,
+    W36,
+    Binary,
+    Response,
+}
+
+pub enum Writer {
+    Data(u8),
+    Request,
+    Resend,
+    Again26,
+    Again36,
+}
+
+// The bytes are spelt from the place `from` on to the end of the line; a resend has none.
+pub enum Question {
+    Read {
+        reader: Reader,
+        from: usize,
+    },
+    Write {
+        writer: Writer,
+        size: usize,
+        from: usize,
+    },
+    Resend {
+        size: usize,
+    },
+    Nothing,
+}
+
+enum Kind {
+    Read(Reader),
+    Write(Writer),
+    Data,
+    Resend,
+    Unknown,
+}
+
+fn kind_of(name: &[u8]) -> Kind {
+    if same(name, b"frame") {
+        return Kind::Read(Reader::Frame);
+    }
+    if same(name, b"w26") {
+        return Kind::Read(Reader::W26);
+    }
+    if same(name, b"w36") {
+        return Kind::Read(Reader::W36);
+    }
+    if same(name, b"binary") {
+        return Kind::Read(Reader::Binary);
+    }
+    if same(name, b"response") {
+        return Kind::Read(Reader::Response);
+    }
+    if same(name, b"data") {
+        return Kind::Data;
+    }
+    if same(name, b"request") {
+        return Kind::Write(Writer::Request);
+    }
+    if same(name, b"resend") {
+        return Kind::Resend;
+    }
+    if same(name, b"again26") {
+        return Kind::Write(Writer::Again26);
+    }
+    if same(name, b"again36") {
+        return Kind::Write(Writer::Again36);
+    }
+    Kind::Unknown
+}
+
+// A number up to the next space, and the place behind that space.
+enum Word {
+    Number { value: usize, next: usize },
+    Nothing,
+}
+
+fn number_at(line: &[u8], from: usize) -> Word {
+    let Found::At(i) = first_byte(line, from, b' ') else {
+        return Word::Nothing;
+    };
+    let Number::Value(value) = decimal(part(line, from, i - from)) else {
+        return Word::Nothing;
+    };
+    Word::Number { value, next: i + 1 }
+}
+
+fn with_size(line: &[u8], from: usize, writer: Writer) -> Question {
+    let Word::Number { value, next } = number_at(line, from) else {
+        return Question::Nothing;
+    };
+    Question::Write {
+        writer,
+        size: value,
+        from: next,
+    }
+}
+
+fn with_channel(line: &[u8], from: usize) -> Question {
+    let Word::Number {
+        value: size,
+        next: second,
+    } = number_at(line, from)
+    else {
+        return Question::Nothing;
+    };
+    let Word::Number {
+        value: channel,
+        next: third,
+    } = number_at(line, second)
+    else {
+        return Question::Nothing;
+    };
+    if 255 < channel {
+        return Question::Nothing;
+    }
+    Question::Write {
+        writer: Writer::Data(channel as u8),
+        size,
+        from: third,
+    }
+}
+
+fn with_size_alone(line: &[u8], from: usize) -> Question {
+    let Number::Value(size) = decimal(part(line, from, line.len())) else {
+        return Question::Nothing;
+    };
+    Question::Resend { size }
+}
+
+pub fn question_of(line: &[u8]) -> Question {
+    let Found::At(i) = first_byte(line, 0, b' ') else {
+        return Question::Nothing;
+    };
+    let from = i + 1;
+    match kind_of(part(line, 0, i)) {
+        Kind::Read(reader) => Question::Read { reader, from },
+        Kind::Write(writer) => with_size(line, from, writer),
+        Kind::Data => with_channel(line, from),
+        Kind::Resend => with_size_alone(line, from),
+        Kind::Unknown => Question::Nothing,
+    }
+}

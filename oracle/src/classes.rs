@@ -1,0 +1,63 @@
+//! Counts answers by their class: the name of what was read, written or refused, without its fields.
+
+use std::collections::BTreeMap;
+
+use crate::{lines, record};
+
+/// The words that name the answer: `refused` has the refusal after it, a wrapper what it wraps.
+fn class(answer: &str) -> &str {
+    let words = match answer.split(' ').next() {
+        Some("refused") if answer.starts_with("refused AtPacketError ") => 3,
+        Some("refused" | "ATEvent" | "ATResponse") => 2,
+        _ => 1,
+    };
+    let end = answer.match_indices(' ').nth(words - 1).map_or(answer.len(), |(at, _)| at);
+    &answer[..end]
+}
+
+/// The class of an answer behind the kind of its question, since the radios share some names.
+pub fn label(question: &[u8], answer: &[u8]) -> String {
+    let kind = question.split(|&b| b == b' ').next().unwrap_or(question);
+    let answer = String::from_utf8_lossy(answer);
+    format!("{} {}", String::from_utf8_lossy(kind), class(&answer))
+}
+
+#[derive(Default)]
+pub struct Counts(BTreeMap<String, u64>);
+
+impl Counts {
+    pub fn add(&mut self, label: String) {
+        *self.0.entry(label).or_default() += 1;
+    }
+
+    pub fn of(&self, label: &str) -> u64 {
+        self.0.get(label).copied().unwrap_or(0)
+    }
+
+    fn print(&self) {
+        for (label, count) in &self.0 {
+            println!("{count:>9}  {label}");
+        }
+    }
+}
+
+/// Counts the answers on standard input, by kind of question as well if their file is given.
+pub fn count(inputs: Option<&str>) -> Result<(), String> {
+    let mut questions = inputs.map(lines::of_file).transpose()?;
+    let mut answers = lines::of_standard_input();
+    let mut counts = Counts::default();
+    while let Some(answer) = answers.next()? {
+        let question = match &mut questions {
+            Some(questions) => Some(questions.next()?.ok_or("fewer inputs than answers")?),
+            None => None,
+        };
+        if record::is_question(answer) {
+            counts.add(match question {
+                Some(question) => label(question, answer),
+                None => class(&String::from_utf8_lossy(answer)).to_string(),
+            });
+        }
+    }
+    counts.print();
+    Ok(())
+}

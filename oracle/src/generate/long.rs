@@ -1,0 +1,79 @@
+//! Inputs around the largest frame: a payload of 4,093 bytes is the last that a length can tell.
+
+use super::{frames, writes};
+use crate::record::Call;
+use crate::rng::Rng;
+
+const LARGEST_PAYLOAD: usize = 4_093;
+
+pub fn make(rng: &mut Rng, out: &mut Vec<u8>) -> Call {
+    let payload = LARGEST_PAYLOAD - 2 + rng.below(10);
+    match rng.below(6) {
+        0 | 1 => {
+            frame(rng, payload, out);
+            Call::Frame
+        }
+        2 => {
+            frames::push_bytes(rng, payload - 1, out);
+            Call::Data { size: size(rng, payload + 6), channel: rng.byte() }
+        }
+        3 => {
+            push_text(rng, payload - 1, out);
+            Call::Request { size: size(rng, payload + 6) }
+        }
+        4 => {
+            push_line(rng, b"\r\n+UUWAPSTAC:0,", payload, b"\r\n", out);
+            Call::Again26 { size: size(rng, payload) }
+        }
+        _ => {
+            out.extend_from_slice(b"\r\n+UESODB:2\x01");
+            out.extend_from_slice(&(payload as u16).to_be_bytes());
+            frames::push_bytes(rng, payload, out);
+            if rng.one_in(3) {
+                return Call::Binary;
+            }
+            Call::Again36 { size: size(rng, out.len()) }
+        }
+    }
+}
+
+/// A frame whose length is right, if it can be told in 12 bits.
+fn frame(rng: &mut Rng, payload: usize, out: &mut Vec<u8>) {
+    let identifier = frames::IDENTIFIERS[rng.below(frames::IDENTIFIERS.len())];
+    frames::open(identifier, out);
+    match identifier {
+        0x0041 => push_line(rng, b"\r\n+UUWAPSTAC:0,", payload, b"\r\n", out),
+        0x0044 => push_text(rng, payload, out),
+        0x0045 => push_line(rng, b"AT\r\n", payload, b"\r\nOK\r\n", out),
+        _ => frames::push_bytes(rng, payload, out),
+    }
+    frames::close(rng, payload, out);
+}
+
+fn size(rng: &mut Rng, need: usize) -> usize {
+    match rng.below(4) {
+        0 => LARGEST_PAYLOAD + 6 + rng.below(12),
+        _ => writes::size(rng, need),
+    }
+}
+
+/// `count` bytes of text in all, between a beginning and an end.
+fn push_line(rng: &mut Rng, before: &[u8], count: usize, after: &[u8], out: &mut Vec<u8>) {
+    out.extend_from_slice(before);
+    push_text(rng, count - before.len() - after.len(), out);
+    out.extend_from_slice(after);
+}
+
+/// Letters and two-byte characters; one text in eight has a byte at its end that is not UTF-8.
+fn push_text(rng: &mut Rng, count: usize, out: &mut Vec<u8>) {
+    let end = out.len() + count;
+    while out.len() + 1 < end {
+        match rng.below(8) {
+            0 => out.extend_from_slice("\u{e9}".as_bytes()),
+            n => out.push(b'a' + n as u8),
+        }
+    }
+    if out.len() < end {
+        out.push(if rng.one_in(8) { 0xC3 } else { b'z' });
+    }
+}

@@ -1,0 +1,170 @@
+//! The list of questions that is kept with its answers: the documents' own cases, the sizes around
+//! every exact fit, and a sample of the generator that reaches every class of answer.
+
+use std::collections::BTreeMap;
+
+use crate::answer::Answerer;
+use crate::record::{self, Call};
+use crate::{cases, classes, generate};
+
+/// Drawn from the generator to find lines of every class.
+const DRAWN: usize = 120_000;
+/// Kept of each class, and of all draws as they come.
+const OF_EACH_CLASS: usize = 12;
+const AS_THEY_COME: usize = 1_000;
+const SEED: u64 = 2_026;
+/// Longer lines are left to the cases that need them.
+const LONGEST: usize = 240;
+
+/// One line of every event that our writer writes.
+const W26_LINES: [&str; 13] = [
+    "~+UUDPC:1,3,6,fe80::1,80,fe80::2,65535~",
+    "~+UUDPD:65535~",
+    "~+UUWLE:0,001122334455,11~",
+    "~+UUWLD:3,4~",
+    "~+UUWAPU:10~",
+    "~+UUWAPD:9~",
+    "~+UUWAPSTAC:0,AB~",
+    "~+UUWAPSTAD:100~",
+    "~+UUETHLU~",
+    "~+UUETHLD~",
+    "~+UUNU:1~",
+    "~+UUND:99~",
+    "~UUNERR:0,10000~",
+];
+
+const W36_LINES: [&str; 15] = [
+    "~+UESOC:255~",
+    "~+UESOCL:0~",
+    "~+UESODA:9,10~",
+    "~+UEWLU:0,001122334455,11~",
+    "~+UEWLD:0,65535~",
+    "~+UEWAPSA:AB~",
+    "~+UEWAPSDA:~",
+    "~+UEWAPU~",
+    "~+UEWAPD~",
+    "~+UEWSNU~",
+    "~+UEWSND~",
+    "~+UEWAPNU~",
+    "~+UEWAPND~",
+    "~+UESODB:2{01 00 03 01 0D 0A}",
+    "~+UESODBF:2,10.0.0.1,5000{01 00 02 55 AA}",
+];
+
+pub fn lines(out: &mut Vec<u8>) -> Result<(), String> {
+    for text in cases::RECORDED {
+        for entry in cases::entries(text)? {
+            match entry {
+                cases::Entry::Heading(heading) => push_heading(out, heading),
+                cases::Entry::Case { question, .. } => push_line(out, &question),
+            }
+        }
+    }
+    small_frames(out);
+    small_writes(out);
+    event_sizes(out)?;
+    sample_by_class(out);
+    sample(out);
+    Ok(())
+}
+
+fn push_heading(out: &mut Vec<u8>, heading: &str) {
+    if !out.is_empty() {
+        out.push(b'\n');
+    }
+    push_line(out, heading.as_bytes());
+}
+
+fn push_line(out: &mut Vec<u8>, line: &[u8]) {
+    out.extend_from_slice(line);
+    out.push(b'\n');
+}
+
+/// Frames of each identifier, with the right length as far as they are long enough to have one.
+fn small_frames(out: &mut Vec<u8>) {
+    push_heading(out, "# Frames of 0 to 8 bytes");
+    for identifier in [0x11, 0x21, 0x31, 0x36, 0x41, 0x44, 0x45, 0x56, 0x71] {
+        for size in 0..=8 {
+            let whole = [0xAA, 0x00, size.max(4) - 4, 0x00, identifier, 0x02, 0x02, 0x55];
+            let mut frame = whole[..usize::from(size)].to_vec();
+            if let Some(last) = frame.last_mut().filter(|_| size > 1) {
+                *last = 0x55;
+            }
+            record::push(out, Call::Frame, &frame);
+        }
+    }
+}
+
+fn small_writes(out: &mut Vec<u8>) {
+    push_heading(out, "# Commands of 0 to 3 bytes into 0 to 11 bytes");
+    for size in 0..=11 {
+        record::push(out, Call::Resend { size }, b"");
+        for text in ["", "A", "AT", "\u{20ac}"] {
+            record::push(out, Call::Request { size }, text.as_bytes());
+            record::push(out, Call::Data { size, channel: 3 }, text.as_bytes());
+        }
+        record::push(out, Call::Request { size }, b"\xC3");
+    }
+}
+
+/// Every event into a buffer that fits, one byte less and one more, and none at all.
+fn event_sizes(out: &mut Vec<u8>) -> Result<(), String> {
+    let again26 = |size| Call::Again26 { size };
+    let again36 = |size| Call::Again36 { size };
+    push_heading(out, "# Every W26 event, read and written again around its exact size");
+    for text in W26_LINES {
+        push_sizes(out, &again26, text)?;
+    }
+    push_heading(out, "# Every W36 event, read and written again around its exact size");
+    for text in W36_LINES {
+        push_sizes(out, &again36, text)?;
+    }
+    Ok(())
+}
+
+/// The lines above are spelt as the writer spells them, so their own length is the exact one.
+fn push_sizes(out: &mut Vec<u8>, call: &dyn Fn(usize) -> Call, text: &str) -> Result<(), String> {
+    let bytes = cases::bytes(text).ok_or_else(|| format!("no bytes: {text}"))?;
+    for size in [0, bytes.len() - 1, bytes.len(), bytes.len() + 1] {
+        record::push(out, call(size), &bytes);
+    }
+    Ok(())
+}
+
+fn sample_by_class(out: &mut Vec<u8>) {
+    let mut maker = generate::Maker::new(SEED);
+    let mut answerer = Answerer::default();
+    let mut found: BTreeMap<String, Vec<Vec<u8>>> = BTreeMap::new();
+    let (mut line, mut answer) = (Vec::new(), Vec::new());
+    for _ in 0..DRAWN {
+        line.clear();
+        answer.clear();
+        maker.line(&mut line);
+        line.pop();
+        if line.len() > LONGEST {
+            continue;
+        }
+        answerer.answer(&line, &mut answer);
+        let kept = found.entry(classes::label(&line, &answer)).or_default();
+        if kept.len() < OF_EACH_CLASS {
+            kept.push(line.clone());
+        }
+    }
+    for (label, kept) in found {
+        push_heading(out, &format!("# Generated: {label}"));
+        kept.iter().for_each(|line| push_line(out, line));
+    }
+}
+
+fn sample(out: &mut Vec<u8>) {
+    push_heading(out, "# Generated, as they come");
+    let mut maker = generate::Maker::new(SEED + 1);
+    let mut line = Vec::new();
+    for _ in 0..AS_THEY_COME {
+        line.clear();
+        maker.line(&mut line);
+        if line.len() <= LONGEST {
+            out.extend_from_slice(&line);
+        }
+    }
+}

@@ -1,0 +1,144 @@
+//! An event as a row: the Rust's name for it, its name in a line, and its values in order. Printing,
+//! the event writer and the question whether two events are the same all go by the row.
+
+use crate::judged::w26x::at_protocol as w26;
+use crate::judged::w36x::at_protocol as w36;
+use Value::{Case, Data, IsIpv6, Number, Text};
+
+#[derive(PartialEq)]
+pub enum Value<'a> {
+    Number(u16),
+    /// The type field of +UUDPC: `2` or `3` in a line.
+    IsIpv6(bool),
+    /// An enum case: its name, and its number in a line.
+    Case(&'static str, u16),
+    Text(&'a str),
+    Data(&'a [u8]),
+}
+
+/// Two events are the same when case, numbers and the bytes of each text and data agree (01, "Event
+/// writer"), which is equality of rows.
+#[derive(PartialEq)]
+pub struct Row<'a> {
+    pub case: &'static str,
+    pub name: &'static str,
+    pub values: Vec<Value<'a>>,
+}
+
+fn row<'a>(case: &'static str, name: &'static str, values: Vec<Value<'a>>) -> Option<Row<'a>> {
+    Some(Row { case, name, values })
+}
+
+/// None for a case that no reader returns.
+pub fn of26<'a>(event: &w26::ATEvent<'a>) -> Option<Row<'a>> {
+    use w26::ATEvent::*;
+    match *event {
+        PeerConnectedIP { .. } => peer_connected(event),
+        PeerDisconnected { peer_handle: h } => row("PeerDisconnected", "+UUDPD", vec![Number(h)]),
+        WifiLinkConnected { conn_id, bssid, channel } => {
+            row("WifiLinkConnected", "+UUWLE", vec![Number(conn_id), Text(bssid), Number(channel)])
+        }
+        WifiLinkDisconnected { conn_id, ref reason } => {
+            row("WifiLinkDisconnected", "+UUWLD", vec![Number(conn_id), reason_value(reason)])
+        }
+        WifiAccessPointUp { id } => row("WifiAccessPointUp", "+UUWAPU", vec![Number(id)]),
+        WifiAccessPointDown { id } => row("WifiAccessPointDown", "+UUWAPD", vec![Number(id)]),
+        WifiAccessPointStationConnected { id, mac_addr } => {
+            row("WifiAccessPointStationConnected", "+UUWAPSTAC", vec![Number(id), Text(mac_addr)])
+        }
+        WifiAccessPointStationDisconnected { id } => {
+            row("WifiAccessPointStationDisconnected", "+UUWAPSTAD", vec![Number(id)])
+        }
+        EthernetLinkUp => row("EthernetLinkUp", "+UUETHLU", vec![]),
+        EthernetLinkDown => row("EthernetLinkDown", "+UUETHLD", vec![]),
+        NetworkUp { interface_id: id } => row("NetworkUp", "+UUNU", vec![Number(id)]),
+        NetworkDown { interface_id: id } => row("NetworkDown", "+UUND", vec![Number(id)]),
+        NetworkError { interface_id: id, code } => {
+            row("NetworkError", "UUNERR", vec![Number(id), Number(code)])
+        }
+        _ => None,
+    }
+}
+
+/// Apart from the others, since it has seven values.
+fn peer_connected<'a>(event: &w26::ATEvent<'a>) -> Option<Row<'a>> {
+    let w26::ATEvent::PeerConnectedIP {
+        peer_handle,
+        is_ipv6,
+        ref protocol,
+        local_address,
+        local_port,
+        remote_address,
+        remote_port,
+    } = *event
+    else {
+        return None;
+    };
+    let mut values = vec![Number(peer_handle), IsIpv6(is_ipv6), protocol_value(protocol)];
+    values.extend([Text(local_address), Number(local_port)]);
+    values.extend([Text(remote_address), Number(remote_port)]);
+    row("PeerConnectedIP", "+UUDPC", values)
+}
+
+fn protocol_value(protocol: &w26::PeerConnectedProfile) -> Value<'static> {
+    use w26::PeerConnectedProfile::*;
+    match protocol {
+        TCP => Case("TCP", 1),
+        UDP => Case("UDP", 2),
+        MQTT => Case("MQTT", 6),
+    }
+}
+
+fn reason_value(reason: &w26::WifiLinkDisconnectedReason) -> Value<'static> {
+    use w26::WifiLinkDisconnectedReason::*;
+    match reason {
+        Unknown => Case("Unknown", 0),
+        RemoteClose => Case("RemoteClose", 1),
+        OutOfRange => Case("OutOfRange", 2),
+        Roaming => Case("Roaming", 3),
+        SecurityProblems => Case("SecurityProblems", 4),
+        NetworkDisabled => Case("NetworkDisabled", 5),
+    }
+}
+
+pub fn of36<'a>(event: &w36::ATEvent<'a>) -> Row<'a> {
+    use w36::ATEvent::*;
+    let (case, name, values) = match *event {
+        SocketConnected { socket_id: id } => ("SocketConnected", "+UESOC", vec![byte(id)]),
+        SocketClosed { socket_id: id } => ("SocketClosed", "+UESOCL", vec![byte(id)]),
+        SocketDataAvailable { socket_id: id, length } => {
+            ("SocketDataAvailable", "+UESODA", vec![byte(id), Number(length)])
+        }
+        SocketDataBinary { socket_id: id, data } => {
+            ("SocketDataBinary", "+UESODB", vec![byte(id), Data(data)])
+        }
+        SocketDataBinaryFrom { socket_id, remote_ip, remote_port, data } => (
+            "SocketDataBinaryFrom",
+            "+UESODBF",
+            vec![byte(socket_id), Text(remote_ip), Number(remote_port), Data(data)],
+        ),
+        WifiLinkUp { wlan_handle, bssid, channel } => {
+            ("WifiLinkUp", "+UEWLU", vec![Number(wlan_handle), Text(bssid), Number(channel)])
+        }
+        WifiLinkDown { wlan_handle, reason } => {
+            ("WifiLinkDown", "+UEWLD", vec![Number(wlan_handle), Number(reason)])
+        }
+        WifiAccessPointStationAssociated { mac_addr } => {
+            ("WifiAccessPointStationAssociated", "+UEWAPSA", vec![Text(mac_addr)])
+        }
+        WifiAccessPointStationDisassociated { mac_addr } => {
+            ("WifiAccessPointStationDisassociated", "+UEWAPSDA", vec![Text(mac_addr)])
+        }
+        WifiAccessPointUp => ("WifiAccessPointUp", "+UEWAPU", vec![]),
+        WifiAccessPointDown => ("WifiAccessPointDown", "+UEWAPD", vec![]),
+        StationNetworkUp => ("StationNetworkUp", "+UEWSNU", vec![]),
+        StationNetworkDown => ("StationNetworkDown", "+UEWSND", vec![]),
+        AccessPointNetworkUp => ("AccessPointNetworkUp", "+UEWAPNU", vec![]),
+        AccessPointNetworkDown => ("AccessPointNetworkDown", "+UEWAPND", vec![]),
+    };
+    Row { case, name, values }
+}
+
+fn byte(n: u8) -> Value<'static> {
+    Number(n.into())
+}

@@ -1,0 +1,88 @@
+//! Holds the answerer against the documents, and the questions against every class of answer.
+
+use crate::answer::{self, Answerer, Outcome};
+use crate::classes::{self, Counts};
+use crate::judged::w26x::edm_protocol::{EdmPacket, EdmPacketError, EDM_PACKET_WIRE_OVERHEAD};
+use crate::{cases, generate, reach, record, recorded, rust};
+
+/// Enough draws for every class, and quick.
+const DRAWN: usize = 200_000;
+
+/// True if nothing is amiss. What is amiss is printed.
+pub fn run() -> Result<bool, String> {
+    let mut amiss = other_facts();
+    for text in cases::RECORDED.into_iter().chain([cases::LONG]) {
+        amiss += wrong_answers(text)?;
+    }
+    let mut list = Vec::new();
+    recorded::lines(&mut list)?;
+    amiss += not_reached("the recorded list", &list);
+    let mut maker = generate::Maker::new(1);
+    let mut drawn = Vec::new();
+    (0..DRAWN).for_each(|_| maker.line(&mut drawn));
+    amiss += not_reached("the generator", &drawn);
+    println!("selftest: {amiss} amiss");
+    Ok(amiss == 0)
+}
+
+/// Under such a heading the Rust must have panicked, beside the answer being the document's.
+const PANIC_HEADING: &str = "# OPEN-POINTS, where the Rust panics";
+
+fn wrong_answers(text: &'static str) -> Result<usize, String> {
+    let mut answerer = Answerer::default();
+    let (mut count, mut wrong, mut must_panic) = (0, 0, false);
+    for entry in cases::entries(text)? {
+        let (question, answer) = match entry {
+            cases::Entry::Heading(heading) => {
+                must_panic = heading.starts_with(PANIC_HEADING);
+                continue;
+            }
+            cases::Entry::Case { question, answer } => (question, answer),
+        };
+        let (mut given, before) = (Vec::new(), rust::panics());
+        let outcome = answerer.answer(&question, &mut given);
+        let as_said = !must_panic || rust::panics() > before;
+        count += 1;
+        if outcome != Outcome::Answered || given != answer || !as_said {
+            wrong += 1;
+            println!("asked    {}", String::from_utf8_lossy(&question));
+            println!("document {}", String::from_utf8_lossy(&answer));
+            println!("answerer {}", String::from_utf8_lossy(&given));
+            println!("panicked as the document says: {as_said}");
+        }
+    }
+    let first = text.lines().next().unwrap_or_default().trim_start_matches("# ");
+    println!("{count} cases, {wrong} wrong, beginning with {first}");
+    Ok(wrong)
+}
+
+/// What the documents say of the Rust that no record line can ask.
+fn other_facts() -> usize {
+    let refused = rust::write(&EdmPacket::StartEvent, answer::odd_place(&mut Vec::new(), 16));
+    let refused = refused == Some(Err(EdmPacketError::PacketEncodeTypeUnknown));
+    let facts = [
+        ("a packet that is no command is refused with 9", refused),
+        ("the Rust's EDM_PACKET_WIRE_OVERHEAD is 8", EDM_PACKET_WIRE_OVERHEAD == 8),
+    ];
+    let wrong = facts.iter().filter(|(_, holds)| !holds);
+    wrong.inspect(|(fact, _)| println!("does not hold: {fact}")).count()
+}
+
+fn not_reached(what: &str, lines: &[u8]) -> usize {
+    let mut answerer = Answerer::default();
+    let mut counts = Counts::default();
+    let (mut answer, mut faults) = (Vec::new(), 0);
+    for line in lines.split(|&b| b == b'\n').filter(|line| record::is_question(line)) {
+        answer.clear();
+        if answerer.answer(line, &mut answer) != Outcome::Answered {
+            faults += 1;
+            println!("fault: {}", String::from_utf8_lossy(line));
+        }
+        counts.add(classes::label(line, &answer));
+    }
+    let labels = reach::labels();
+    let missing: Vec<_> = labels.iter().filter(|label| counts.of(label) == 0).collect();
+    println!("{what}: {} of {} classes reached", labels.len() - missing.len(), labels.len());
+    missing.iter().for_each(|label| println!("not reached by {what}: {label}"));
+    missing.len() + faults
+}

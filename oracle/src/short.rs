@@ -1,0 +1,83 @@
+//! Every string up to some length over a few symbols, bare and behind the beginnings of events.
+
+use crate::record::{self, Call};
+
+/// The bytes that the readers look for, digits, a letter, and the halves of a two-byte character.
+const MARKS: &[&[u8]] =
+    &[b"\r", b"\n", b":", b",", b"+", b"0", b"2", b"A", b"\x01", b"\xC3", b"\xA9"];
+
+/// For what follows the colon of a binary event.
+const INLINE: &[&[u8]] = &[b"2", b",", b"+", b"a", b"\x00", b"\x01", b"\xC3"];
+
+/// Inside a field: digits at the edges of the codes and of their neighbours in ASCII.
+const DIGITS: &[&[u8]] = &[b"0", b"1", b"2", b"3", b"5", b"6", b"9", b"+", b"-", b" ", b"/", b","];
+
+/// Whole words, since a response turns on them.
+const WORDS: &[&[u8]] = &[b"\r", b"\n", b"\r\n", b"OK", b"ERROR", b"a", b"\xC3", b"\xA9"];
+
+pub struct Set {
+    call: Call,
+    before: &'static [u8],
+    symbols: &'static [&'static [u8]],
+    longest: usize,
+    after: &'static [u8],
+}
+
+const fn set(
+    call: Call,
+    before: &'static [u8],
+    symbols: &'static [&'static [u8]],
+    longest: usize,
+    after: &'static [u8],
+) -> Set {
+    Set { call, before, symbols, longest, after }
+}
+
+pub const SETS: [Set; 23] = [
+    set(Call::W26, b"", MARKS, 4, b""),
+    set(Call::W26, b"\r\n", MARKS, 4, b"\r\n"),
+    set(Call::W26, b"\r\n+UUDPD", MARKS, 4, b""),
+    set(Call::W26, b"\r\n+UUDPD", MARKS, 4, b"\r\n"),
+    set(Call::W26, b"\r\n+UUETHLU", MARKS, 3, b"\r\n"),
+    set(Call::W26, b"\r\n+UUDPC:", DIGITS, 3, b",1,a,2,b,3\r\n"),
+    set(Call::W26, b"\r\n+UUDPC:1,3,", DIGITS, 3, b",,7,,8\r\n"),
+    set(Call::W26, b"\r\n+UUWLD:1,", DIGITS, 3, b"\r\n"),
+    set(Call::W36, b"", MARKS, 4, b""),
+    set(Call::W36, b"\r\n", MARKS, 4, b"\r\n"),
+    set(Call::W36, b"\r\n+UESOC", MARKS, 4, b""),
+    set(Call::W36, b"\r\n+UESOC", MARKS, 4, b"\r\n"),
+    set(Call::W36, b"\r\n+UEWAPSA", MARKS, 4, b"\r\n"),
+    set(Call::W36, b"\r\n+UESOCL:", DIGITS, 4, b"\r\n"),
+    set(Call::W36, b"\r\n+UEWAPU", MARKS, 3, b"\r\n"),
+    set(Call::Binary, b"", MARKS, 3, b""),
+    set(Call::Binary, b"\r\n+UESODB", MARKS, 4, b""),
+    set(Call::Binary, b"\r\n+UESODB:", INLINE, 5, b""),
+    set(Call::Binary, b"\r\n+UESODBF:", INLINE, 5, b"\x01\x00\x01\xFF"),
+    set(Call::Binary, b"\r\n+UESODBF:1,a", INLINE, 5, b""),
+    set(Call::Response, b"", MARKS, 4, b""),
+    set(Call::Response, b"", WORDS, 5, b""),
+    set(Call::Response, b"\r\n", WORDS, 4, b"\r\n"),
+];
+
+impl Set {
+    pub fn lines(&self, out: &mut Vec<u8>) {
+        for length in 0..=self.longest {
+            let count = self.symbols.len().pow(length as u32);
+            for number in 0..count {
+                record::push(out, self.call, &self.string(length, number));
+            }
+        }
+    }
+
+    /// The string whose symbols are the digits of `number` in the base of the symbols' count.
+    fn string(&self, length: usize, number: usize) -> Vec<u8> {
+        let mut bytes = self.before.to_vec();
+        let mut rest = number;
+        for _ in 0..length {
+            bytes.extend_from_slice(self.symbols[rest % self.symbols.len()]);
+            rest /= self.symbols.len();
+        }
+        bytes.extend_from_slice(self.after);
+        bytes
+    }
+}

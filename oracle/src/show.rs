@@ -1,0 +1,127 @@
+//! Answers as text: the Rust's names, then the fields in the Rust's order, split by single spaces.
+
+use std::fmt::Debug;
+use std::io::Write;
+
+use crate::hex;
+use crate::judged::w26x::at_protocol::{ATEvent, ATResponse};
+use crate::judged::w26x::edm_protocol::{ConnectEventType, EdmPacket, EdmPacketError};
+use crate::record::push_decimal;
+use crate::rows::{self, Row, Value};
+
+/// The Rust returned a case that no reader returns, by document 01.
+pub const UNLISTED: &str = "UNLISTED CASE";
+
+fn word(out: &mut Vec<u8>, text: &str) {
+    out.extend_from_slice(text.as_bytes());
+}
+
+fn number_after(out: &mut Vec<u8>, n: usize) {
+    out.push(b' ');
+    push_decimal(out, n);
+}
+
+fn hex_after(out: &mut Vec<u8>, bytes: &[u8]) {
+    out.push(b' ');
+    hex::push(out, bytes);
+}
+
+/// The Rust derives Debug for both error enums, so the name printed is its own.
+pub fn refusal(out: &mut Vec<u8>, error: impl Debug) {
+    write!(out, "refused {error:?}").expect("a Vec takes every byte");
+}
+
+pub fn frame_refusal(out: &mut Vec<u8>, error: EdmPacketError) {
+    match error {
+        EdmPacketError::AtPacketError(inner) => {
+            write!(out, "refused AtPacketError {inner:?}").expect("a Vec takes every byte")
+        }
+        own => refusal(out, own),
+    }
+}
+
+pub fn row(out: &mut Vec<u8>, row: &Row) {
+    word(out, row.case);
+    for value in &row.values {
+        match *value {
+            Value::Number(n) => number_after(out, n.into()),
+            Value::IsIpv6(yes) => number_after(out, yes.into()),
+            Value::Text(text) => hex_after(out, text.as_bytes()),
+            Value::Data(data) => hex_after(out, data),
+            Value::Case(name, _) => {
+                out.push(b' ');
+                word(out, name);
+            }
+        }
+    }
+}
+
+pub fn event26(out: &mut Vec<u8>, event: &ATEvent) -> Result<(), &'static str> {
+    row(out, &rows::of26(event).ok_or(UNLISTED)?);
+    Ok(())
+}
+
+pub fn response(out: &mut Vec<u8>, response: &ATResponse) {
+    match response {
+        ATResponse::Ok(text) => {
+            word(out, "Ok");
+            hex_after(out, text.as_bytes());
+        }
+        ATResponse::Error => word(out, "Error"),
+        ATResponse::Other(text) => {
+            word(out, "Other");
+            hex_after(out, text.as_bytes());
+        }
+    }
+}
+
+pub fn packet(out: &mut Vec<u8>, packet: &EdmPacket) -> Result<(), &'static str> {
+    match packet {
+        EdmPacket::ConnectEvent { channel, event_type } => {
+            word(out, "ConnectEvent");
+            number_after(out, (*channel).into());
+            connect(out, event_type);
+        }
+        EdmPacket::DisconnectEvent { channel } => {
+            word(out, "DisconnectEvent");
+            number_after(out, (*channel).into());
+        }
+        EdmPacket::DataEvent { channel, data } => {
+            word(out, "DataEvent");
+            number_after(out, (*channel).into());
+            hex_after(out, data);
+        }
+        EdmPacket::ATRequest(text) => {
+            word(out, "ATRequest");
+            hex_after(out, text.as_bytes());
+        }
+        EdmPacket::ATResponse(inner) => {
+            word(out, "ATResponse ");
+            response(out, inner);
+        }
+        EdmPacket::ATEvent(event) => {
+            word(out, "ATEvent ");
+            event26(out, event)?;
+        }
+        EdmPacket::ResendConnectEvents => word(out, "ResendConnectEvents"),
+        EdmPacket::StartEvent => word(out, "StartEvent"),
+        EdmPacket::DataCommand { .. } => return Err(UNLISTED),
+    }
+    Ok(())
+}
+
+fn connect(out: &mut Vec<u8>, event_type: &ConnectEventType) {
+    let ConnectEventType::ConnectEventIPv4(ends) = event_type;
+    word(out, " ConnectEventIPv4");
+    number_after(out, ends.protocol.into());
+    hex_after(out, &ends.remote_addr);
+    number_after(out, ends.remote_port.into());
+    hex_after(out, &ends.local_addr);
+    number_after(out, ends.local_port.into());
+}
+
+pub fn written(out: &mut Vec<u8>, bytes: &[u8]) {
+    word(out, "wrote");
+    number_after(out, bytes.len());
+    hex_after(out, bytes);
+}
