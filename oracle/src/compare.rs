@@ -46,7 +46,7 @@ fn show(number: u64, input: &[u8], expected: &[u8], given: Option<&[u8]>) {
     println!("difference at line {number}: {}", lossy(input));
     println!("  Rust:   {}", lossy(expected));
     println!("  ours:   {}", given.map_or("(no line)".into(), lossy));
-    println!("  repeat: printf '%s\\n' '{}' | target/bin/replay", lossy(input));
+    println!("  repeat: printf '%s\\n' '{}' | ./run replay", lossy(input));
 }
 
 fn remaining<R: BufRead>(lines: &mut Lines<R>) -> Result<u64, String> {
