@@ -88,6 +88,15 @@ textPlan head length count a b c =
       tail = record { start = 0; len = 0 };
     }
 
+abbrev pub barePlan : List ℕ → ℕ → Plan
+barePlan head length = textPlan head length 0 (item.Number 0) (item.Number 0) (item.Number 0)
+
+abbrev pub onePlan : List ℕ → ℕ → Item → Plan
+onePlan head length a = textPlan head length 1 a (item.Number 0) (item.Number 0)
+
+abbrev pub twoPlan : List ℕ → ℕ → Item → Item → Plan
+twoPlan head length a b = textPlan head length 2 a b (item.Number 0)
+
 -- the same plan with data behind its fields
 abbrev pub withData : Plan → Text → Plan
 withData p bytes =

@@ -18,7 +18,7 @@ ghost use Rattle.text.specs.Put.{after};
 ghost use Rattle.at.specs.Event.{num};
 ghost use Rattle.writer.specs.Line.{behindName, ending, contentsOf};
 ghost use Rattle.writer.specs.Write.{writableFields, writableEnd, Writes};
-ghost use Rattle.writer.specs.Steps.{Whole, valueOf, itemsOf, fieldValues, dataValues, fieldTexts, planLine, planWrite, roomOf, roomAfter, textPlan};
+ghost use Rattle.writer.specs.Steps.{Whole, valueOf, itemsOf, fieldValues, dataValues, fieldTexts, planLine, planWrite, roomOf, roomAfter, textPlan, barePlan, onePlan, twoPlan};
 
 // `head` holds CR LF and the name in its first `length` bytes; of the seven items, the first `count` are fields. Data are written only
 // where the line is `marked`: those of `tail`.
@@ -214,15 +214,8 @@ pub(crate) fn write_plan(buf: &mut [u8], src: &[u8], p: Plan) -> WriteAnswer
     WriteAnswer::Wrote(put_line(buf, src, p))
 }
 
-// The plan of a text event with at most three fields.
-pub(crate) fn text_plan(
-    head: [u8; 12],
-    length: usize,
-    count: usize,
-    a: Item,
-    b: Item,
-    c: Item,
-) -> Plan
+// The plan of a text event with three fields, of which the last ones may be left unused.
+fn text_plan(head: [u8; 12], length: usize, count: usize, a: Item, b: Item, c: Item) -> Plan
     ensures { λ r. ⌜ r ≡ textPlan head length count a b c ⌝ }
 {
     Plan {
@@ -239,4 +232,83 @@ pub(crate) fn text_plan(
         marked: false,
         tail: Text { start: 0, len: 0 },
     }
+}
+
+pub(crate) fn bare(head: [u8; 12], length: usize) -> Plan
+    ensures { λ r. ⌜ r ≡ barePlan head length ⌝ }
+{
+    text_plan(
+        head,
+        length,
+        0,
+        Item::Number(0),
+        Item::Number(0),
+        Item::Number(0),
+    )
+}
+
+pub(crate) fn number(head: [u8; 12], length: usize, n: u16) -> Plan
+    ensures { λ r. ⌜ r ≡ onePlan head length (Item.Number n) ⌝ }
+{
+    text_plan(
+        head,
+        length,
+        1,
+        Item::Number(n),
+        Item::Number(0),
+        Item::Number(0),
+    )
+}
+
+pub(crate) fn text(head: [u8; 12], length: usize, t: Text) -> Plan
+    ensures { λ r. ⌜ r ≡ onePlan head length (Item.Place t) ⌝ }
+{
+    text_plan(
+        head,
+        length,
+        1,
+        Item::Place(t),
+        Item::Number(0),
+        Item::Number(0),
+    )
+}
+
+pub(crate) fn numbers(head: [u8; 12], length: usize, m: u16, n: u16) -> Plan
+    ensures { λ r. ⌜ r ≡ twoPlan head length (Item.Number m) (Item.Number n) ⌝ }
+{
+    text_plan(
+        head,
+        length,
+        2,
+        Item::Number(m),
+        Item::Number(n),
+        Item::Number(0),
+    )
+}
+
+pub(crate) fn number_and_text(head: [u8; 12], length: usize, n: u16, t: Text) -> Plan
+    ensures { λ r. ⌜ r ≡ twoPlan head length (Item.Number n) (Item.Place t) ⌝ }
+{
+    text_plan(
+        head,
+        length,
+        2,
+        Item::Number(n),
+        Item::Place(t),
+        Item::Number(0),
+    )
+}
+
+// A text between two numbers.
+pub(crate) fn link(head: [u8; 12], length: usize, m: u16, t: Text, n: u16) -> Plan
+    ensures { λ r. ⌜ r ≡ textPlan head length 3 (Item.Number m) (Item.Place t) (Item.Number n) ⌝ }
+{
+    text_plan(
+        head,
+        length,
+        3,
+        Item::Number(m),
+        Item::Place(t),
+        Item::Number(n),
+    )
 }

@@ -2,7 +2,11 @@
 use crate::WriteAnswer;
 use crate::item::Item;
 use crate::plan::Plan;
-use crate::plan::text_plan;
+use crate::plan::bare;
+use crate::plan::link;
+use crate::plan::number;
+use crate::plan::number_and_text;
+use crate::plan::numbers;
 use crate::plan::write_plan;
 use at::Text;
 use at::w26::ATEvent;
@@ -69,105 +73,40 @@ fn plan_of(e: ATEvent) -> Plan
             marked: false,
             tail: Text { start: 0, len: 0 },
         },
-        ATEvent::PeerDisconnected { peer_handle } => text_plan(
+        ATEvent::PeerDisconnected { peer_handle } => number(
             *b"\r\n+UUDPD\0\0\0\0",
             8,
-            1,
-            Item::Number(peer_handle.0),
-            Item::Number(0),
-            Item::Number(0),
+            peer_handle.0,
         ),
         ATEvent::WifiLinkConnected {
             conn_id,
             bssid,
             channel,
-        } => text_plan(
-            *b"\r\n+UUWLE\0\0\0\0",
-            8,
-            3,
-            Item::Number(conn_id),
-            Item::Place(bssid),
-            Item::Number(channel),
-        ),
-        ATEvent::WifiLinkDisconnected { conn_id, reason } => text_plan(
+        } => link(*b"\r\n+UUWLE\0\0\0\0", 8, conn_id, bssid, channel),
+        ATEvent::WifiLinkDisconnected { conn_id, reason } => numbers(
             *b"\r\n+UUWLD\0\0\0\0",
             8,
-            2,
-            Item::Number(conn_id),
-            Item::Number(reason_number(reason)),
-            Item::Number(0),
+            conn_id,
+            reason_number(reason),
         ),
-        ATEvent::WifiAccessPointUp { id } => text_plan(
-            *b"\r\n+UUWAPU\0\0\0",
-            9,
-            1,
-            Item::Number(id),
-            Item::Number(0),
-            Item::Number(0),
-        ),
-        ATEvent::WifiAccessPointDown { id } => text_plan(
-            *b"\r\n+UUWAPD\0\0\0",
-            9,
-            1,
-            Item::Number(id),
-            Item::Number(0),
-            Item::Number(0),
-        ),
-        ATEvent::WifiAccessPointStationConnected { id, mac_addr } => text_plan(
+        ATEvent::WifiAccessPointUp { id } => number(*b"\r\n+UUWAPU\0\0\0", 9, id),
+        ATEvent::WifiAccessPointDown { id } => number(*b"\r\n+UUWAPD\0\0\0", 9, id),
+        ATEvent::WifiAccessPointStationConnected { id, mac_addr } => number_and_text(
             *b"\r\n+UUWAPSTAC",
             12,
-            2,
-            Item::Number(id),
-            Item::Place(mac_addr),
-            Item::Number(0),
+            id,
+            mac_addr,
         ),
-        ATEvent::WifiAccessPointStationDisconnected { id } => text_plan(
-            *b"\r\n+UUWAPSTAD",
-            12,
-            1,
-            Item::Number(id),
-            Item::Number(0),
-            Item::Number(0),
-        ),
-        ATEvent::EthernetLinkUp => text_plan(
-            *b"\r\n+UUETHLU\0\0",
-            10,
-            0,
-            Item::Number(0),
-            Item::Number(0),
-            Item::Number(0),
-        ),
-        ATEvent::EthernetLinkDown => text_plan(
-            *b"\r\n+UUETHLD\0\0",
-            10,
-            0,
-            Item::Number(0),
-            Item::Number(0),
-            Item::Number(0),
-        ),
-        ATEvent::NetworkUp { interface_id } => text_plan(
-            *b"\r\n+UUNU\0\0\0\0\0",
-            7,
-            1,
-            Item::Number(interface_id),
-            Item::Number(0),
-            Item::Number(0),
-        ),
-        ATEvent::NetworkDown { interface_id } => text_plan(
-            *b"\r\n+UUND\0\0\0\0\0",
-            7,
-            1,
-            Item::Number(interface_id),
-            Item::Number(0),
-            Item::Number(0),
-        ),
-        ATEvent::NetworkError { interface_id, code } => text_plan(
+        ATEvent::WifiAccessPointStationDisconnected { id } => number(*b"\r\n+UUWAPSTAD", 12, id),
+        ATEvent::EthernetLinkUp => bare(*b"\r\n+UUETHLU\0\0", 10),
+        ATEvent::EthernetLinkDown => bare(*b"\r\n+UUETHLD\0\0", 10),
+        ATEvent::NetworkUp { interface_id } => number(*b"\r\n+UUNU\0\0\0\0\0", 7, interface_id),
+        ATEvent::NetworkDown { interface_id } => number(*b"\r\n+UUND\0\0\0\0\0", 7, interface_id),
+        ATEvent::NetworkError { interface_id, code } => numbers(
             *b"\r\nUUNERR\0\0\0\0",
             8,
-            2,
-            Item::Number(interface_id),
-            Item::Number(code),
-            Item::Number(0),
+            interface_id,
+            code,
         ),
     }
 }

@@ -2,7 +2,11 @@
 use crate::WriteAnswer;
 use crate::item::Item;
 use crate::plan::Plan;
-use crate::plan::text_plan;
+use crate::plan::bare;
+use crate::plan::link;
+use crate::plan::number;
+use crate::plan::numbers;
+use crate::plan::text;
 use crate::plan::write_plan;
 use at::Text;
 use at::w36::ATEvent;
@@ -33,14 +37,7 @@ fn plan_of(e: ATEvent) -> Plan
 {
     match e {
         ATEvent::SocketDataBinary { socket_id, data } => with_data(
-            text_plan(
-                *b"\r\n+UESODB\0\0\0",
-                9,
-                1,
-                Item::Number(wide(socket_id.0)),
-                Item::Number(0),
-                Item::Number(0),
-            ),
+            number(*b"\r\n+UESODB\0\0\0", 9, wide(socket_id.0)),
             data,
         ),
         ATEvent::SocketDataBinaryFrom {
@@ -49,127 +46,52 @@ fn plan_of(e: ATEvent) -> Plan
             remote_port,
             data,
         } => with_data(
-            text_plan(
+            link(
                 *b"\r\n+UESODBF\0\0",
                 10,
-                3,
-                Item::Number(wide(socket_id.0)),
-                Item::Place(remote_ip),
-                Item::Number(remote_port),
+                wide(socket_id.0),
+                remote_ip,
+                remote_port,
             ),
             data,
         ),
-        ATEvent::SocketConnected { socket_id } => text_plan(
+        ATEvent::SocketConnected { socket_id } => number(
             *b"\r\n+UESOC\0\0\0\0",
             8,
-            1,
-            Item::Number(wide(socket_id.0)),
-            Item::Number(0),
-            Item::Number(0),
+            wide(socket_id.0),
         ),
-        ATEvent::SocketClosed { socket_id } => text_plan(
-            *b"\r\n+UESOCL\0\0\0",
-            9,
-            1,
-            Item::Number(wide(socket_id.0)),
-            Item::Number(0),
-            Item::Number(0),
-        ),
-        ATEvent::SocketDataAvailable { socket_id, length } => text_plan(
+        ATEvent::SocketClosed { socket_id } => number(*b"\r\n+UESOCL\0\0\0", 9, wide(socket_id.0)),
+        ATEvent::SocketDataAvailable { socket_id, length } => numbers(
             *b"\r\n+UESODA\0\0\0",
             9,
-            2,
-            Item::Number(wide(socket_id.0)),
-            Item::Number(length),
-            Item::Number(0),
+            wide(socket_id.0),
+            length,
         ),
         ATEvent::WifiLinkUp {
             wlan_handle,
             bssid,
             channel,
-        } => text_plan(
-            *b"\r\n+UEWLU\0\0\0\0",
-            8,
-            3,
-            Item::Number(wlan_handle),
-            Item::Place(bssid),
-            Item::Number(channel),
-        ),
+        } => link(*b"\r\n+UEWLU\0\0\0\0", 8, wlan_handle, bssid, channel),
         ATEvent::WifiLinkDown {
             wlan_handle,
             reason,
-        } => text_plan(
-            *b"\r\n+UEWLD\0\0\0\0",
-            8,
-            2,
-            Item::Number(wlan_handle),
-            Item::Number(reason),
-            Item::Number(0),
-        ),
-        ATEvent::WifiAccessPointUp => text_plan(
-            *b"\r\n+UEWAPU\0\0\0",
-            9,
-            0,
-            Item::Number(0),
-            Item::Number(0),
-            Item::Number(0),
-        ),
-        ATEvent::WifiAccessPointDown => text_plan(
-            *b"\r\n+UEWAPD\0\0\0",
-            9,
-            0,
-            Item::Number(0),
-            Item::Number(0),
-            Item::Number(0),
-        ),
-        ATEvent::WifiAccessPointStationAssociated { mac_addr } => text_plan(
+        } => numbers(*b"\r\n+UEWLD\0\0\0\0", 8, wlan_handle, reason),
+        ATEvent::WifiAccessPointUp => bare(*b"\r\n+UEWAPU\0\0\0", 9),
+        ATEvent::WifiAccessPointDown => bare(*b"\r\n+UEWAPD\0\0\0", 9),
+        ATEvent::WifiAccessPointStationAssociated { mac_addr } => text(
             *b"\r\n+UEWAPSA\0\0",
             10,
-            1,
-            Item::Place(mac_addr),
-            Item::Number(0),
-            Item::Number(0),
+            mac_addr,
         ),
-        ATEvent::WifiAccessPointStationDisassociated { mac_addr } => text_plan(
+        ATEvent::WifiAccessPointStationDisassociated { mac_addr } => text(
             *b"\r\n+UEWAPSDA\0",
             11,
-            1,
-            Item::Place(mac_addr),
-            Item::Number(0),
-            Item::Number(0),
+            mac_addr,
         ),
-        ATEvent::StationNetworkUp => text_plan(
-            *b"\r\n+UEWSNU\0\0\0",
-            9,
-            0,
-            Item::Number(0),
-            Item::Number(0),
-            Item::Number(0),
-        ),
-        ATEvent::StationNetworkDown => text_plan(
-            *b"\r\n+UEWSND\0\0\0",
-            9,
-            0,
-            Item::Number(0),
-            Item::Number(0),
-            Item::Number(0),
-        ),
-        ATEvent::AccessPointNetworkUp => text_plan(
-            *b"\r\n+UEWAPNU\0\0",
-            10,
-            0,
-            Item::Number(0),
-            Item::Number(0),
-            Item::Number(0),
-        ),
-        ATEvent::AccessPointNetworkDown => text_plan(
-            *b"\r\n+UEWAPND\0\0",
-            10,
-            0,
-            Item::Number(0),
-            Item::Number(0),
-            Item::Number(0),
-        ),
+        ATEvent::StationNetworkUp => bare(*b"\r\n+UEWSNU\0\0\0", 9),
+        ATEvent::StationNetworkDown => bare(*b"\r\n+UEWSND\0\0\0", 9),
+        ATEvent::AccessPointNetworkUp => bare(*b"\r\n+UEWAPNU\0\0", 10),
+        ATEvent::AccessPointNetworkDown => bare(*b"\r\n+UEWAPND\0\0", 10),
     }
 }
 
