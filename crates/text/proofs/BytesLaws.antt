@@ -85,10 +85,6 @@ starts-split (x ∷ s) (y ∷ t) e =
     let g = starts-split s t (and-right (eqb x y) (startsWith s t) e) in
     rw f (ap (λ (l : List ℕ). y ∷ l) g)
 
--- `&s[a..]` is the rest from a
-pub rest-all : (s : List ℕ) (a : ℕ) → take (length s - a) (drop a s) ≡ drop a s
-rest-all s a = take-all (length s - a) (drop a s) (simp length-drop (omega arith))
-
 -- what is left behind a place has room for so much
 pub leb-left : (n start len : ℕ) → start ≤ n → leb len (n - start) ≡ leb (start + len) n
 leb-left n start len h = go (leb len (n - start)) refl
