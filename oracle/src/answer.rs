@@ -3,10 +3,10 @@
 use crate::judged::w26x::edm_protocol::EdmPacket;
 use crate::record::{self, Call};
 use crate::rows::{self, Row};
-use crate::{differences, rust, show, writer};
+use crate::{differences, rust, show, walk, writer};
 
 /// A panic that document 01 has no answer for.
-const PANIC: &str = "PANIC";
+pub const PANIC: &str = "PANIC";
 /// The two copies of the response reader do not agree.
 const COPIES_DIFFER: &str = "COPIES DIFFER";
 /// The Rust does not read the line of our event writer as the event that was written.
@@ -18,7 +18,7 @@ const BYTE_CHANGED: &str = "BYTE CHANGED";
 const FILL: u8 = 0xC7;
 
 /// Nothing, or the fault that stands in the answer's place.
-type Answered = Result<(), &'static str>;
+pub type Answered = Result<(), &'static str>;
 
 #[derive(PartialEq)]
 pub enum Outcome {
@@ -62,6 +62,7 @@ impl Answerer {
             Call::W26 => event26(bytes, out),
             Call::W36 => event36(bytes, out),
             Call::Binary => binary(bytes, out),
+            Call::Walk36 => walk::answer(bytes, out),
             Call::Response => response(bytes, out),
             Call::Data { size, channel } => {
                 let packet = EdmPacket::DataCommand { channel, data: bytes };

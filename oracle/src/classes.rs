@@ -2,17 +2,20 @@
 
 use std::collections::BTreeMap;
 
-use crate::{lines, record};
+use crate::{lines, record, walk};
 
 /// The words that name the answer: `refused` has the refusal after it, a wrapper what it wraps.
-fn class(answer: &str) -> &str {
+fn class(answer: &str) -> String {
+    if let Some(class) = walk::class(answer) {
+        return class;
+    }
     let words = match answer.split(' ').next() {
         Some("refused") if answer.starts_with("refused AtPacketError ") => 3,
         Some("refused" | "ATEvent" | "ATResponse") => 2,
         _ => 1,
     };
     let end = answer.match_indices(' ').nth(words - 1).map_or(answer.len(), |(at, _)| at);
-    &answer[..end]
+    answer[..end].to_string()
 }
 
 /// The class of an answer behind the kind of its question, since the radios share some names.
@@ -54,7 +57,7 @@ pub fn count(inputs: Option<&str>) -> Result<(), String> {
         if record::is_question(answer) {
             counts.add(match question {
                 Some(question) => label(question, answer),
-                None => class(&String::from_utf8_lossy(answer)).to_string(),
+                None => class(&String::from_utf8_lossy(answer)),
             });
         }
     }

@@ -20,6 +20,7 @@ mod rust;
 mod selftest;
 mod short;
 mod show;
+mod walk;
 mod writer;
 
 /// The three Rust files, compiled where they lie (build.rs).

@@ -1,6 +1,8 @@
 //! Every class of answer that each kind of question can have. What the generator and the recorded
 //! list reach is held against this.
 
+use crate::walk;
+
 const W26_EVENTS: [&str; 13] = [
     "PeerConnectedIP",
     "PeerDisconnected",
@@ -108,6 +110,10 @@ pub fn labels() -> Vec<String> {
     add("w36 ", &W36_EVENTS);
     add("w36 refused ", &LINE_REFUSALS);
     add("binary refused ", &LINE_REFUSALS[..4]);
+    for count in walk::COUNTS {
+        add(&format!("walk36 {count} "), &["end"]);
+        add(&format!("walk36 {count} refused "), &LINE_REFUSALS);
+    }
     add("again26 refused ", &LINE_REFUSALS);
     add("again26 refused ", &WRITER_REFUSALS);
     add("again36 refused ", &LINE_REFUSALS);

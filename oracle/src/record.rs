@@ -9,6 +9,7 @@ pub enum Call {
     W26,
     W36,
     Binary,
+    Walk36,
     Response,
     Data { size: usize, channel: u8 },
     Request { size: usize },
@@ -34,6 +35,7 @@ pub fn parse(line: &[u8], bytes: &mut Vec<u8>) -> Option<Call> {
         b"w26" => Call::W26,
         b"w36" => Call::W36,
         b"binary" => Call::Binary,
+        b"walk36" => Call::Walk36,
         b"response" => Call::Response,
         b"data" => Call::Data {
             size: size(words.next()?)?,
@@ -67,6 +69,7 @@ pub fn push(out: &mut Vec<u8>, call: Call, bytes: &[u8]) {
         Call::W26 => out.extend_from_slice(b"w26 "),
         Call::W36 => out.extend_from_slice(b"w36 "),
         Call::Binary => out.extend_from_slice(b"binary "),
+        Call::Walk36 => out.extend_from_slice(b"walk36 "),
         Call::Response => out.extend_from_slice(b"response "),
         Call::Data { size, channel } => push_numbers(out, "data ", &[size, channel as usize]),
         Call::Request { size } => push_numbers(out, "request ", &[size]),

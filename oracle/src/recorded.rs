@@ -63,6 +63,7 @@ pub fn lines(out: &mut Vec<u8>) -> Result<(), String> {
     small_frames(out);
     small_writes(out);
     event_sizes(out)?;
+    event_ends(out)?;
     sample_by_class(out);
     sample(out);
     Ok(())
@@ -122,9 +123,22 @@ fn event_sizes(out: &mut Vec<u8>) -> Result<(), String> {
     Ok(())
 }
 
+/// Every W36 event with another behind it, so that its end is seen.
+fn event_ends(out: &mut Vec<u8>) -> Result<(), String> {
+    push_heading(out, "# Every W36 event with another behind it");
+    for text in W36_LINES {
+        record::push(out, Call::Walk36, &bytes_of(&format!("{text}~+UESOC:1~"))?);
+    }
+    Ok(())
+}
+
+fn bytes_of(text: &str) -> Result<Vec<u8>, String> {
+    cases::bytes(text).ok_or_else(|| format!("no bytes: {text}"))
+}
+
 /// The lines above are spelt as the writer spells them, so their own length is the exact one.
 fn push_sizes(out: &mut Vec<u8>, call: &dyn Fn(usize) -> Call, text: &str) -> Result<(), String> {
-    let bytes = cases::bytes(text).ok_or_else(|| format!("no bytes: {text}"))?;
+    let bytes = bytes_of(text)?;
     for size in [0, bytes.len() - 1, bytes.len(), bytes.len() + 1] {
         record::push(out, call(size), &bytes);
     }

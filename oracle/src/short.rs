@@ -12,6 +12,18 @@ const INLINE: &[&[u8]] = &[b"2", b",", b"+", b"a", b"\x00", b"\x01", b"\xC3"];
 /// Inside a field: digits at the edges of the codes and of their neighbours in ASCII.
 const DIGITS: &[&[u8]] = &[b"0", b"1", b"2", b"3", b"5", b"6", b"9", b"+", b"-", b" ", b"/", b","];
 
+/// Whole events of a W36 read, and pieces of them.
+const EVENTS: &[&[u8]] = &[
+    b"\r\n+UESOC:1\r\n",
+    b"\r\n+UEWSNU\r\n",
+    b"\r\n+UESOC:x\r\n",
+    b"\r\n+UESODB:2\x01\x00\x01\xFF",
+    b"\r\n+UESODBF:2,a,3\x01\x00\x02\r\n",
+    b"\r\n",
+    b"\n",
+    b"\xFF",
+];
+
 /// Whole words, since a response turns on them.
 const WORDS: &[&[u8]] = &[b"\r", b"\n", b"\r\n", b"OK", b"ERROR", b"a", b"\xC3", b"\xA9"];
 
@@ -33,7 +45,7 @@ const fn set(
     Set { call, before, symbols, longest, after }
 }
 
-pub const SETS: [Set; 23] = [
+pub const SETS: [Set; 26] = [
     set(Call::W26, b"", MARKS, 4, b""),
     set(Call::W26, b"\r\n", MARKS, 4, b"\r\n"),
     set(Call::W26, b"\r\n+UUDPD", MARKS, 4, b""),
@@ -54,6 +66,9 @@ pub const SETS: [Set; 23] = [
     set(Call::Binary, b"\r\n+UESODB:", INLINE, 5, b""),
     set(Call::Binary, b"\r\n+UESODBF:", INLINE, 5, b"\x01\x00\x01\xFF"),
     set(Call::Binary, b"\r\n+UESODBF:1,a", INLINE, 5, b""),
+    set(Call::Walk36, b"", EVENTS, 5, b""),
+    set(Call::Walk36, b"\r\n+UESOC:1\r\n", MARKS, 4, b"\r\n"),
+    set(Call::Walk36, b"\r\n+UESODB:2\x01\x00\x02", MARKS, 4, b""),
     set(Call::Response, b"", MARKS, 4, b""),
     set(Call::Response, b"", WORDS, 5, b""),
     set(Call::Response, b"\r\n", WORDS, 4, b"\r\n"),

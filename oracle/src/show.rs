@@ -21,6 +21,12 @@ fn number_after(out: &mut Vec<u8>, n: usize) {
     push_decimal(out, n);
 }
 
+/// A place in the bytes that were asked about.
+pub fn place_after(out: &mut Vec<u8>, place: usize) {
+    word(out, " @");
+    push_decimal(out, place);
+}
+
 fn hex_after(out: &mut Vec<u8>, bytes: &[u8]) {
     out.push(b' ');
     hex::push(out, bytes);

@@ -8,7 +8,7 @@ use native.Mathlib.Nat.{add-assoc}
 use lib.Dec.{eqb, leb, ltb}
 use lib.ListN.{length, take, drop, getD, length-append, length-take, length-drop}
 use lib.Seq.{drop-drop, take-all, getD-drop}
-use borrow.Author.Tests.{lt-ltb, le-ltb, ltb-true, ltb-false, le-leb, lt-leb}
+use borrow.Author.Tests.{lt-ltb, le-ltb, ltb-true, ltb-false, le-leb, lt-leb, leb-true}
 use Rattle.text.specs.Bytes.{bytes, startsWith, part}
 use Rattle.text.specs.Find.{firstOf, firstFrom}
 use Rattle.text.specs.Utf8.{utf8}
@@ -17,9 +17,9 @@ use Rattle.text.specs.declared.find.Found.the-variants.{At, Nothing}
 use Rattle.text.proofs.Bools.{and-id}
 use Rattle.text.proofs.BytesLaws.{starts-split}
 use Rattle.text.proofs.FindLaws.{from-at}
-use Rattle.at.specs.Event.{Row, refusal}
+use Rattle.at.specs.Event.{Row, noEvent}
 use Rattle.at.proofs.LineLaws.{drop-take, not-found}
-use Rattle.at.specs.Binary.{fieldsUpTo, readFields, marker, markedAt, unmarked, findMarker, dataAt, noData, readData, withData, readBody, tried, prefix, tryRows}
+use Rattle.at.specs.Binary.{fieldsUpTo, readFields, marker, markedAt, unmarked, findMarker, announced, dataAt, noData, readData, withData, readBody, tried, prefix, tryRows}
 
 -- parts: the length of one that lies inside, and one up to a place seen from another place
 pub part-length : (s : List ℕ) (a n : ℕ) → a + n ≤ length s → length (part s a n) ≡ n
@@ -130,9 +130,30 @@ module _ (s : List ℕ) (at : ℕ) where
       let z : at + 0 ≡ at = omega arith in
       rw (le-leb 2 (length (drop at s)) (omega (arith, length-drop at s)), getD-drop at s 0 0, z, ← e, getD-drop at s 1 0, ← f, length-drop at s)
 
--- the outcome of what follows the colon, from the place of its marker
+-- data that were read end inside the bytes
+data-below : (p : ℕ) (t : List ℕ) (a n : ℕ) → readData p t ≡ dataAt a n → (p < a) × (a + n ≤ p + length t)
+unfolding readData
+data-below p t a n e = go (leb 2 (length t)) refl (leb (announced t) (length t - 2)) refl e
+  where
+    go : (k : Bool) → leb 2 (length t) ≡ k → (l : Bool) → leb (announced t) (length t - 2) ≡ l
+        → cond k (cond l (dataAt (p + 2) (announced t)) (noData 12)) (noData 12) ≡ dataAt a n → (p < a) × (a + n ≤ p + length t)
+    go true k true l e =
+        let x : p + 2 ≡ a = cc in
+        let y : announced t ≡ n = cc in
+        let h = leb-true 2 (length t) k in
+        let i = leb-true (announced t) (length t - 2) l in
+        (omega arith, omega arith)
+    go true k false l e = let z : _≡_ {A = ℕ} 0 1 = cc in absurd (omega arith)
+    go false k l m e = let z : _≡_ {A = ℕ} 0 1 = cc in absurd (omega arith)
+
+pub data-inside : (s : List ℕ) (at : ℕ) {a n : ℕ} → at ≤ length s → dataAt a n ≡ readData at (drop at s) → (at < a) × (a + n ≤ length s)
+data-inside s at {a} {n} h e =
+    let b = data-below at (drop at s) a n (sym e) in
+    (b .0, omega (arith, length-drop at s, b .1))
+
+-- the answer of what follows the colon, from the place of its marker
 module _ (r : Row) (s : List ℕ) (start : ℕ) where
-  pub body-unmarked : {n : ℕ} → unmarked n ≡ findMarker (drop start s) → readBody r start (drop start s) ≡ refusal n
+  pub body-unmarked : {n : ℕ} → unmarked n ≡ findMarker (drop start s) → readBody r start (drop start s) ≡ noEvent n
   unfolding readBody
   body-unmarked e = rw (← e)
 

@@ -1,13 +1,17 @@
 pub mod EventLaws
 pub mod FieldLaws
 pub mod LineLaws
+pub mod EndLaws
 pub mod BinaryLaws
+pub mod WalkLaws
 pub mod ResponseLaws
 pub mod Answers
 pub mod Refusals
 pub mod ResponseAnswers
 pub mod W26Answers
 pub mod W36Answers
+pub mod WalkAnswers
 pub mod OneOutcome
 pub mod WrongReaders
+pub mod WrongWalks
 pub mod Examples

@@ -5,7 +5,7 @@ use mathlib.Core.Bool.{Bool}
 use lib.ListN.{take, drop}
 use Rattle.text.specs.Field.{Field, left}
 use Rattle.at.specs.Refusal.{refusalNo}
-use Rattle.at.specs.Event.{Row, num, at, Taken, took, stop, Read, values, refused}
+use Rattle.at.specs.Event.{Row, num, at, Outcome, refusal, Taken, took, stop, Read, values, refused}
 use Rattle.at.specs.Line.{Framed, body, broken, Hit, hit, miss}
 use Rattle.at.specs.Binary.{Marked, markedAt, unmarked, Data, dataAt, noData}
 use Rattle.at.specs.W26 as w26
@@ -26,10 +26,12 @@ use Rattle.at.specs.declared.w26.ReasonField as reason
 use Rattle.at.specs.declared.w26.Connection as connection
 use Rattle.at.specs.declared.w26.Numbered as numbered
 use Rattle.at.specs.declared.w26.Name as name26
+use Rattle.at.specs.declared.w26.Told as told26
 use Rattle.at.specs.declared.w36.SocketName as socket
 use Rattle.at.specs.declared.w36.StationName as station
 use Rattle.at.specs.declared.w36.BareName as bare
 use Rattle.at.specs.declared.w36.Name as name36
+use Rattle.at.specs.declared.w36.Told as told36
 
 -- one field, taken by a walk over the text s
 abbrev pub takenByte : List ℕ → byte.ByteField → Taken
@@ -90,6 +92,15 @@ dataOf (data·.the-variants.Refused e) = noData (refusalNo e)
 abbrev pub addressOf : address.AddressFields → Read
 addressOf (address.the-variants.Got n ip port) = values (num n ∷ at ip ∷ num port ∷ []) []
 addressOf (address.the-variants.Refused e) = refused (refusalNo e)
+
+-- an event whose end is not told yet
+abbrev pub toldW26 : told26.Told → Outcome
+toldW26 (told26.the-variants.Event e) = w26.eventOf e
+toldW26 (told26.the-variants.Refused e) = refusal (refusalNo e)
+
+abbrev pub toldW36 : told36.Told → Outcome
+toldW36 (told36.the-variants.Event e) = w36.eventOf e
+toldW36 (told36.the-variants.Refused e) = refusal (refusalNo e)
 
 -- the rows that the code's names stand for
 abbrev pub numberedRow : numbered.Numbered → Row

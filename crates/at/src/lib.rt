@@ -1,11 +1,12 @@
-// AT responses and events: lines of text and binary events, read into answers. Every place in an answer counts from the start of the
-// slice that was lent.
+// AT responses and events: lines of text and binary events, read into answers, and the walk over every event of one W36 read. Every place
+// in an answer counts from the start of the slice that was lent.
 mod binary;
 mod field;
 mod line;
 pub mod response;
 pub mod w26;
 pub mod w36;
+pub mod walk;
 
 pub enum AtPacketError {
     Utf8DecodeFailed,

@@ -25,10 +25,10 @@ ghost use mathlib.Core.Path.{_≡_};
 ghost use mathlib.Core.List.{[], _∷_};
 ghost use lib.ListN.{drop};
 ghost use Rattle.text.specs.Field.{left};
-ghost use Rattle.at.specs.Event.{event, num, takeKind, takeKinds, readRow, bits, ipType, protocol as protocolKind, reason as reasonKind};
+ghost use Rattle.at.specs.Event.{event, num, upTo, takeKind, takeKinds, readRow, bits, ipType, protocol as protocolKind, reason as reasonKind};
 ghost use Rattle.at.specs.Line.{readLine, readText, search, readHit};
 ghost use Rattle.at.specs.W26.{table, w26, eventOf, shown, UUDPC, UUWLD, UUWAPSTAC};
-ghost use Rattle.at.specs.Steps.{takenType, takenProtocol, takenReason, readConnection, numberedRow, hitW26};
+ghost use Rattle.at.specs.Steps.{takenType, takenProtocol, takenReason, readConnection, toldW26, numberedRow, hitW26};
 
 pub enum WifiLinkDisconnectedReason {
     Unknown,
@@ -94,7 +94,14 @@ pub enum ATEvent {
     },
 }
 
+// `past` is the place just past the event.
 pub enum EventAnswer {
+    Event { event: ATEvent, past: usize },
+    Refused(AtPacketError),
+}
+
+// What a name and its fields say, before the event's end is looked at.
+enum Told {
     Event(ATEvent),
     Refused(AtPacketError),
 }
@@ -261,17 +268,17 @@ fn connection_of(s: &[u8], w: Fields) -> Connection
     }
 }
 
-fn peer_connected(s: &[u8], w: Fields) -> EventAnswer
-    ensures { λ r. ⌜ shown r ≡ readRow UUDPC (left (now (s .entry)) w) ⌝ }
+fn peer_connected(s: &[u8], w: Fields) -> Told
+    ensures { λ r. ⌜ toldW26 r ≡ readRow UUDPC (left (now (s .entry)) w) ⌝ }
 {
     match connection_of(s, w) {
-        Connection::Refused(e) => EventAnswer::Refused(e),
+        Connection::Refused(e) => Told::Refused(e),
         Connection::Got(handle, is_ipv6, protocol, local) => match text_and_word(s, local) {
-            TextAndWord::Refused(e) => EventAnswer::Refused(e),
+            TextAndWord::Refused(e) => Told::Refused(e),
             TextAndWord::Got(local_address, local_port, remote) => match text_and_word(s, remote) {
-                TextAndWord::Refused(e) => EventAnswer::Refused(e),
+                TextAndWord::Refused(e) => Told::Refused(e),
                 TextAndWord::Got(remote_address, remote_port, _) =>
-                    EventAnswer::Event(ATEvent::PeerConnectedIP {
+                    Told::Event(ATEvent::PeerConnectedIP {
                         peer_handle: PeerHandle(handle),
                         is_ipv6,
                         protocol,
@@ -300,14 +307,14 @@ fn numbered_event(k: Numbered, n: u16) -> ATEvent
     }
 }
 
-fn wifi_link_disconnected(s: &[u8], w: Fields) -> EventAnswer
-    ensures { λ r. ⌜ shown r ≡ readRow UUWLD (left (now (s .entry)) w) ⌝ }
+fn wifi_link_disconnected(s: &[u8], w: Fields) -> Told
+    ensures { λ r. ⌜ toldW26 r ≡ readRow UUWLD (left (now (s .entry)) w) ⌝ }
 {
     match word_field(s, w) {
-        WordField::Refused(e) => EventAnswer::Refused(e),
+        WordField::Refused(e) => Told::Refused(e),
         WordField::Got(conn_id, behind) => match reason_field(s, behind) {
-            ReasonField::Refused(e) => EventAnswer::Refused(e),
-            ReasonField::Got(reason, _) => EventAnswer::Event(ATEvent::WifiLinkDisconnected {
+            ReasonField::Refused(e) => Told::Refused(e),
+            ReasonField::Got(reason, _) => Told::Event(ATEvent::WifiLinkDisconnected {
                 conn_id,
                 reason,
             }),
@@ -315,67 +322,78 @@ fn wifi_link_disconnected(s: &[u8], w: Fields) -> EventAnswer
     }
 }
 
-fn station_connected(s: &[u8], w: Fields) -> EventAnswer
-    ensures { λ r. ⌜ shown r ≡ readRow UUWAPSTAC (left (now (s .entry)) w) ⌝ }
+fn station_connected(s: &[u8], w: Fields) -> Told
+    ensures { λ r. ⌜ toldW26 r ≡ readRow UUWAPSTAC (left (now (s .entry)) w) ⌝ }
 {
     match word_field(s, w) {
-        WordField::Refused(e) => EventAnswer::Refused(e),
+        WordField::Refused(e) => Told::Refused(e),
         WordField::Got(id, behind) => match text_field(s, behind) {
-            TextField::Refused(e) => EventAnswer::Refused(e),
-            TextField::Got(mac_addr, _) =>
-                EventAnswer::Event(ATEvent::WifiAccessPointStationConnected { id, mac_addr }),
+            TextField::Refused(e) => Told::Refused(e),
+            TextField::Got(mac_addr, _) => Told::Event(ATEvent::WifiAccessPointStationConnected {
+                id,
+                mac_addr,
+            }),
         },
     }
 }
 
 // The event of a name, with the fields before a walk.
-fn fields_of(name: Name, s: &[u8], w: Fields) -> EventAnswer
-    ensures { λ r. ⌜ shown r ≡ readHit (hitW26 name) (left (now (s .entry)) w) ⌝ }
+fn fields_of(name: Name, s: &[u8], w: Fields) -> Told
+    ensures { λ r. ⌜ toldW26 r ≡ readHit (hitW26 name) (left (now (s .entry)) w) ⌝ }
 {
     match name {
         Name::PeerConnected => peer_connected(s, w),
         Name::Numbered(k) => match word_field(s, w) {
-            WordField::Got(n, _) => EventAnswer::Event(numbered_event(k, n)),
-            WordField::Refused(e) => EventAnswer::Refused(e),
+            WordField::Got(n, _) => Told::Event(numbered_event(k, n)),
+            WordField::Refused(e) => Told::Refused(e),
         },
         Name::WifiLinkConnected => match link_of(s, w) {
-            Link::Got(conn_id, bssid, channel, _) => EventAnswer::Event(ATEvent::WifiLinkConnected {
+            Link::Got(conn_id, bssid, channel, _) => Told::Event(ATEvent::WifiLinkConnected {
                 conn_id,
                 bssid,
                 channel,
             }),
-            Link::Refused(e) => EventAnswer::Refused(e),
+            Link::Refused(e) => Told::Refused(e),
         },
         Name::WifiLinkDisconnected => wifi_link_disconnected(s, w),
         Name::StationConnected => station_connected(s, w),
-        Name::EthernetLinkUp => EventAnswer::Event(ATEvent::EthernetLinkUp),
-        Name::EthernetLinkDown => EventAnswer::Event(ATEvent::EthernetLinkDown),
+        Name::EthernetLinkUp => Told::Event(ATEvent::EthernetLinkUp),
+        Name::EthernetLinkDown => Told::Event(ATEvent::EthernetLinkDown),
         Name::NetworkError => match pair_of(s, w) {
-            Pair::Got(interface_id, code, _) => EventAnswer::Event(ATEvent::NetworkError {
+            Pair::Got(interface_id, code, _) => Told::Event(ATEvent::NetworkError {
                 interface_id,
                 code,
             }),
-            Pair::Refused(e) => EventAnswer::Refused(e),
+            Pair::Refused(e) => Told::Refused(e),
         },
-        Name::Unknown => EventAnswer::Refused(AtPacketError::EventUnknown),
+        Name::Unknown => Told::Refused(AtPacketError::EventUnknown),
     }
 }
 
 // The event of the text from `start` to the end of `s`.
-fn event_in(s: &[u8], start: usize) -> EventAnswer
-    ensures { λ r. ⌜ shown r ≡ readText table start (drop start (now (s .entry))) ⌝ }
+fn event_in(s: &[u8], start: usize) -> Told
+    ensures { λ r. ⌜ toldW26 r ≡ readText table start (drop start (now (s .entry))) ⌝ }
 {
     let h = head_of(s, start);
     let name = name_of(part(s, start, h.len));
     fields_of(name, s, h.fields)
 }
 
-// The event of the line that starts at `from`.
+fn with_end(t: Told, past: usize) -> EventAnswer
+    ensures { λ r. ⌜ shown r ≡ upTo past (toldW26 t) ⌝ }
+{
+    match t {
+        Told::Event(event) => EventAnswer::Event { event, past },
+        Told::Refused(e) => EventAnswer::Refused(e),
+    }
+}
+
+// The event of the line that starts at `from`, which takes up the rest of the buffer.
 pub fn read(s: &[u8], from: usize) -> EventAnswer
     ensures { λ r. ⌜ shown r ≡ readLine w26 from (drop from (now (s .entry))) ⌝ }
 {
     match frame_line(s, from) {
-        Framed::Body { start, end } => event_in(part(s, 0, end), start),
+        Framed::Body { start, end } => with_end(event_in(part(s, 0, end), start), s.len()),
         Framed::Refused(e) => EventAnswer::Refused(e),
     }
 }

@@ -32,11 +32,11 @@ ghost use mathlib.Core.Path.{_≡_};
 ghost use mathlib.Core.List.{[], _∷_};
 ghost use lib.ListN.{drop};
 ghost use Rattle.text.specs.Field.{left};
-ghost use Rattle.at.specs.Event.{event, num, at, readRow};
+ghost use Rattle.at.specs.Event.{event, num, at, upTo, readRow};
 ghost use Rattle.at.specs.Line.{readLine, readText, search, readHit};
 ghost use Rattle.at.specs.Binary.{readBody, tried, tryRows};
 ghost use Rattle.at.specs.W36.{table, binaryTable, w36, eventOf, shown, shownBinary, UESODA, UESODB, UESODBF};
-ghost use Rattle.at.specs.Steps.{socketRow, stationRow, bareRow, hitW36};
+ghost use Rattle.at.specs.Steps.{toldW36, socketRow, stationRow, bareRow, hitW36};
 
 pub enum ATEvent {
     SocketConnected {
@@ -82,14 +82,21 @@ pub enum ATEvent {
     AccessPointNetworkDown,
 }
 
+// `past` is the place just past the event.
 pub enum EventAnswer {
-    Event(ATEvent),
+    Event { event: ATEvent, past: usize },
     Refused(AtPacketError),
 }
 
 pub enum BinaryAnswer {
-    Event(ATEvent),
+    Event { event: ATEvent, past: usize },
     NotBinary,
+    Refused(AtPacketError),
+}
+
+// What a name and its fields say, before the event's end is looked at.
+enum Told {
+    Event(ATEvent),
     Refused(AtPacketError),
 }
 
@@ -207,14 +214,14 @@ fn bare_event(k: BareName) -> ATEvent
     }
 }
 
-fn data_available(s: &[u8], w: Fields) -> EventAnswer
-    ensures { λ r. ⌜ shown r ≡ readRow UESODA (left (now (s .entry)) w) ⌝ }
+fn data_available(s: &[u8], w: Fields) -> Told
+    ensures { λ r. ⌜ toldW36 r ≡ readRow UESODA (left (now (s .entry)) w) ⌝ }
 {
     match byte_field(s, w) {
-        ByteField::Refused(e) => EventAnswer::Refused(e),
+        ByteField::Refused(e) => Told::Refused(e),
         ByteField::Got(n, behind) => match word_field(s, behind) {
-            WordField::Refused(e) => EventAnswer::Refused(e),
-            WordField::Got(length, _) => EventAnswer::Event(ATEvent::SocketDataAvailable {
+            WordField::Refused(e) => Told::Refused(e),
+            WordField::Got(length, _) => Told::Event(ATEvent::SocketDataAvailable {
                 socket_id: SocketId(n),
                 length,
             }),
@@ -223,56 +230,65 @@ fn data_available(s: &[u8], w: Fields) -> EventAnswer
 }
 
 // The event of a name, with the fields before a walk.
-fn fields_of(name: Name, s: &[u8], w: Fields) -> EventAnswer
-    ensures { λ r. ⌜ shown r ≡ readHit (hitW36 name) (left (now (s .entry)) w) ⌝ }
+fn fields_of(name: Name, s: &[u8], w: Fields) -> Told
+    ensures { λ r. ⌜ toldW36 r ≡ readHit (hitW36 name) (left (now (s .entry)) w) ⌝ }
 {
     match name {
         Name::Socket(k) => match byte_field(s, w) {
-            ByteField::Got(n, _) => EventAnswer::Event(socket_event(k, n)),
-            ByteField::Refused(e) => EventAnswer::Refused(e),
+            ByteField::Got(n, _) => Told::Event(socket_event(k, n)),
+            ByteField::Refused(e) => Told::Refused(e),
         },
         Name::SocketDataAvailable => data_available(s, w),
         Name::WifiLinkUp => match link_of(s, w) {
-            Link::Got(wlan_handle, bssid, channel, _) => EventAnswer::Event(ATEvent::WifiLinkUp {
+            Link::Got(wlan_handle, bssid, channel, _) => Told::Event(ATEvent::WifiLinkUp {
                 wlan_handle,
                 bssid,
                 channel,
             }),
-            Link::Refused(e) => EventAnswer::Refused(e),
+            Link::Refused(e) => Told::Refused(e),
         },
         Name::WifiLinkDown => match pair_of(s, w) {
-            Pair::Got(wlan_handle, reason, _) => EventAnswer::Event(ATEvent::WifiLinkDown {
+            Pair::Got(wlan_handle, reason, _) => Told::Event(ATEvent::WifiLinkDown {
                 wlan_handle,
                 reason,
             }),
-            Pair::Refused(e) => EventAnswer::Refused(e),
+            Pair::Refused(e) => Told::Refused(e),
         },
         Name::Station(k) => match text_field(s, w) {
-            TextField::Got(mac_addr, _) => EventAnswer::Event(station_event(k, mac_addr)),
-            TextField::Refused(e) => EventAnswer::Refused(e),
+            TextField::Got(mac_addr, _) => Told::Event(station_event(k, mac_addr)),
+            TextField::Refused(e) => Told::Refused(e),
         },
-        Name::Bare(k) => EventAnswer::Event(bare_event(k)),
-        Name::Unknown => EventAnswer::Refused(AtPacketError::EventUnknown),
+        Name::Bare(k) => Told::Event(bare_event(k)),
+        Name::Unknown => Told::Refused(AtPacketError::EventUnknown),
     }
 }
 
 // The event of the text from `start` to the end of `s`.
-fn event_in(s: &[u8], start: usize) -> EventAnswer
-    ensures { λ r. ⌜ shown r ≡ readText table start (drop start (now (s .entry))) ⌝ }
+fn event_in(s: &[u8], start: usize) -> Told
+    ensures { λ r. ⌜ toldW36 r ≡ readText table start (drop start (now (s .entry))) ⌝ }
 {
     let h = head_of(s, start);
     let name = name_of(part(s, start, h.len));
     fields_of(name, s, h.fields)
 }
 
-// The text event of the line that starts at `from`: only what stands before the next CR LF is kept.
+fn with_end(t: Told, past: usize) -> EventAnswer
+    ensures { λ r. ⌜ shown r ≡ upTo past (toldW36 t) ⌝ }
+{
+    match t {
+        Told::Event(event) => EventAnswer::Event { event, past },
+        Told::Refused(e) => EventAnswer::Refused(e),
+    }
+}
+
+// The text event of the line that starts at `from`: it ends with the next CR LF.
 pub fn read(s: &[u8], from: usize) -> EventAnswer
     ensures { λ r. ⌜ shown r ≡ readLine w36 from (drop from (now (s .entry))) ⌝ }
 {
     match frame_line(s, from) {
-        Framed::Body { start, end } => {
-            let body = part(s, 0, end);
-            event_in(part(body, 0, first_line_end(body, start)), start)
+        Framed::Body { start, end: _ } => {
+            let end = first_line_end(s, start);
+            with_end(event_in(part(s, 0, end), start), end + 2)
         }
         Framed::Refused(e) => EventAnswer::Refused(e),
     }
@@ -290,10 +306,13 @@ fn socket_data(s: &[u8], start: usize) -> BinaryAnswer
             ),
             Number8::Value(n) => match data_at(s, start + len + 1) {
                 Data::Refused(e) => BinaryAnswer::Refused(e),
-                Data::Got(data) => BinaryAnswer::Event(ATEvent::SocketDataBinary {
-                    socket_id: SocketId(n),
-                    data,
-                }),
+                Data::Got(data) => BinaryAnswer::Event {
+                    event: ATEvent::SocketDataBinary {
+                        socket_id: SocketId(n),
+                        data,
+                    },
+                    past: data.start + data.len,
+                },
             },
         },
     }
@@ -309,12 +328,15 @@ fn socket_data_from(s: &[u8], start: usize) -> BinaryAnswer
             AddressFields::Refused(e) => BinaryAnswer::Refused(e),
             AddressFields::Got(n, remote_ip, remote_port) => match data_at(s, start + len + 1) {
                 Data::Refused(e) => BinaryAnswer::Refused(e),
-                Data::Got(data) => BinaryAnswer::Event(ATEvent::SocketDataBinaryFrom {
-                    socket_id: SocketId(n),
-                    remote_ip,
-                    remote_port,
-                    data,
-                }),
+                Data::Got(data) => BinaryAnswer::Event {
+                    event: ATEvent::SocketDataBinaryFrom {
+                        socket_id: SocketId(n),
+                        remote_ip,
+                        remote_port,
+                        data,
+                    },
+                    past: data.start + data.len,
+                },
             },
         },
     }

@@ -27,7 +27,7 @@ use Rattle.edm.specs.declared.EdmPacket.the-variants.{ATRequest, ResendC
 pub data Example : Type 0 where
   aFrame : List ℕ → Outcome → Example
   aWrite : EdmPacket → List ℕ → ℕ → Written → Example
-  aLine26 aLine36 : List ℕ → at.Outcome → Example
+  aLine26 aLine36 : List ℕ → at.Answer → Example
   aBinary : List ℕ → Tried → Example
   aResponse : List ℕ → Response → Example
 
@@ -43,7 +43,7 @@ abbrev pub All : List Example → Type 0
 All [] = Unit {0}
 All (e ∷ es) = Holds e × All es
 
--- a place is written with its length: `place 6 1` is one byte at place 6
+-- a place is written with its length: `place 6 1` is one byte at place 6; behind an event's values stands the place just past it
 abbrev pub examples : List Example
 examples =
     aFrame (hex "AA 00 02 00 71 55") (packet startPacket)
@@ -55,11 +55,11 @@ examples =
     ∷ aWrite (ATRequest (record { start = 0; len = 2 })) (bytes "AT") 16 (written (hex "AA 00 05 00 44 41 54 0D 55"))
     ∷ aWrite ResendConnectEvents [] 6 (written (hex "AA 00 02 00 56 55"))
     ∷ aWrite ResendConnectEvents [] 5 (refused 2)
-    ∷ aLine26 (bytes "\r\n+UUDPD:+007\r\n") (at.event UUDPD (num 7 ∷ []))
-    ∷ aLine26 (bytes "\r\n+UUETHLU\r\n") (at.event UUETHLU [])
-    ∷ aLine26 (bytes "\r\n+UUNERR:0,1\r\n") (at.refusal 16)
-    ∷ aLine36 (bytes "\r\n+UEWSNU\r\n\r\n+UESOC:1\r\n") (at.event UEWSNU [])
-    ∷ aBinary (bytes "\r\n+UESODB:2" ++ hex "01 00 01 FF") (tried (at.event UESODB (num 2 ∷ place 14 1 ∷ [])))
+    ∷ aLine26 (bytes "\r\n+UUDPD:+007\r\n") (at.eventTo UUDPD (num 7 ∷ []) 15)
+    ∷ aLine26 (bytes "\r\n+UUETHLU\r\n") (at.eventTo UUETHLU [] 12)
+    ∷ aLine26 (bytes "\r\n+UUNERR:0,1\r\n") (at.noEvent 16)
+    ∷ aLine36 (bytes "\r\n+UEWSNU\r\n\r\n+UESOC:1\r\n") (at.eventTo UEWSNU [] 11)
+    ∷ aBinary (bytes "\r\n+UESODB:2" ++ hex "01 00 01 FF") (tried (at.eventTo UESODB (num 2 ∷ place 14 1 ∷ []) 15))
     ∷ aResponse (bytes "\r\n+A\r\nOK\r\n") (ok 2 2)
     ∷ []
 

@@ -8,6 +8,7 @@ use lib.Dec.{eqb, ltb}
 use lib.ListN.{length, take, length-drop}
 use lib.Seq.{length-take-le}
 use borrow.Author.Tests.{eqb-true, ltb-false}
+use Rattle.at.specs.Event.{upTo}
 use Rattle.at.specs.Response.{responseOf}
 use Rattle.at.specs.W26.{eventOf}
 use Rattle.at.specs.declared.response.ATResponse.{ATResponse}
@@ -24,20 +25,20 @@ response-packet (response.Ok t) = refl
 response-packet response.Error = refl
 response-packet (response.Other t) = refl
 
-pub event-packet : (e : ATEvent) → ofEvent (eventOf e) ≡ packet (atPacket (eventOf e))
-event-packet (ev.PeerConnectedIP h is6 p la lp ra rp) = refl
-event-packet (ev.PeerDisconnected h) = refl
-event-packet (ev.WifiLinkConnected c b n) = refl
-event-packet (ev.WifiLinkDisconnected c r) = refl
-event-packet (ev.WifiAccessPointUp i) = refl
-event-packet (ev.WifiAccessPointDown i) = refl
-event-packet (ev.WifiAccessPointStationConnected i m) = refl
-event-packet (ev.WifiAccessPointStationDisconnected i) = refl
-event-packet ev.EthernetLinkUp = refl
-event-packet ev.EthernetLinkDown = refl
-event-packet (ev.NetworkUp i) = refl
-event-packet (ev.NetworkDown i) = refl
-event-packet (ev.NetworkError i c) = refl
+pub event-packet : (past : ℕ) (e : ATEvent) → ofEvent (upTo past (eventOf e)) ≡ packet (atPacket (eventOf e))
+event-packet past (ev.PeerConnectedIP h is6 p la lp ra rp) = refl
+event-packet past (ev.PeerDisconnected h) = refl
+event-packet past (ev.WifiLinkConnected c b n) = refl
+event-packet past (ev.WifiLinkDisconnected c r) = refl
+event-packet past (ev.WifiAccessPointUp i) = refl
+event-packet past (ev.WifiAccessPointDown i) = refl
+event-packet past (ev.WifiAccessPointStationConnected i m) = refl
+event-packet past (ev.WifiAccessPointStationDisconnected i) = refl
+event-packet past ev.EthernetLinkUp = refl
+event-packet past ev.EthernetLinkDown = refl
+event-packet past (ev.NetworkUp i) = refl
+event-packet past (ev.NetworkDown i) = refl
+event-packet past (ev.NetworkError i c) = refl
 
 -- a packet comes by the tests that refuse with 2 and 3
 accepted : (d l m : Bool) (o : Outcome) (p : Packet) → cond d (cond l (refusal 2) (cond m o (refusal 3))) (refusal 1) ≡ packet p → (l ≡ false) × (m ≡ true)

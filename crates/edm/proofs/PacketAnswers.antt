@@ -116,7 +116,7 @@ packet-back is.ResendConnectEvents = refl
 packet-back is.StartEvent = refl
 
 event-injective : (d e : ATEvent) → eventOf d ≡ eventOf e → d ≡ e
-event-injective d e o = let f = w26.shown-injective (eventAnswer.Event d) (eventAnswer.Event e) o in cc
+event-injective d e o = let f = w26.shown-injective (eventAnswer.Event d 0) (eventAnswer.Event e 0) (ap (event.upTo 0) o) in cc
 
 packet-injective : (p q : EdmPacket) → packetOf p ≡ packetOf q → p ≡ q
 packet-injective p q e =

@@ -50,9 +50,10 @@ ofResponse response.error = packet (atResponse response.error)
 ofResponse (response.other p n) = packet (atResponse (response.other p n))
 ofResponse (response.refusal n) = refusal n
 
-abbrev pub ofEvent : event.Outcome → Outcome
-ofEvent (event.event r vs) = packet (atPacket (event.event r vs))
-ofEvent (event.refusal n) = refusal n
+-- and a frame holds one event, so the place just past it is not told
+abbrev pub ofEvent : event.Answer → Outcome
+ofEvent (event.eventTo r vs past) = packet (atPacket (event.event r vs))
+ofEvent (event.noEvent n) = refusal n
 
 -- the payload t, at the place p, of an identifier that carries this; the last two ignore it
 abbrev pub readPayload : Carries → ℕ → List ℕ → Outcome

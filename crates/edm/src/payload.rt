@@ -81,7 +81,7 @@ fn event_refused(a: EventAnswer) -> FrameAnswer
 {
     match a {
         EventAnswer::Refused(e) => FrameAnswer::Refused(EdmPacketError::AtPacketError(e)),
-        EventAnswer::Event(e) => FrameAnswer::Packet(EdmPacket::ATEvent(e)),
+        EventAnswer::Event { event, past: _ } => FrameAnswer::Packet(EdmPacket::ATEvent(event)),
     }
 }
 
@@ -89,8 +89,8 @@ pub(crate) fn at_event(s: &[u8]) -> FrameAnswer
     ensures { λ r. ⌜ shown r ≡ ofEvent (readLine w26 5 (drop 5 (now (s .entry)))) ⌝ }
 {
     let a = at::w26::read(s, 5);
-    let EventAnswer::Event(e) = a else {
+    let EventAnswer::Event { event, past: _ } = a else {
         return event_refused(a);
     };
-    FrameAnswer::Packet(EdmPacket::ATEvent(e))
+    FrameAnswer::Packet(EdmPacket::ATEvent(event))
 }

@@ -183,7 +183,7 @@ pub fn answer(buf: &mut [u8], at: usize, src: &[u8], a: EventAnswer) -> usize
     ensures { λ r. ⌜ Between (now (buf .entry)) at r (now (buf .exit)) ⌝ }
 {
     match a {
-        EventAnswer::Event(e) => event(buf, at, src, e),
+        EventAnswer::Event { event: e, past: _ } => event(buf, at, src, e),
         EventAnswer::Refused(e) => of_at(buf, at, e),
     }
 }

@@ -3,12 +3,15 @@ use crate::hex::text_after;
 use crate::refusal::of_at;
 use crate::word::number_after;
 use crate::word::numbered;
+use crate::word::place_after;
 use crate::word::word;
+use at::AtPacketError;
 use at::SocketId;
 use at::Text;
 use at::w36::ATEvent;
 use at::w36::BinaryAnswer;
 use at::w36::EventAnswer;
+use at::walk::EventStep;
 ghost use Rattle.render.specs.Between.{Between};
 
 fn of_socket(buf: &mut [u8], at: usize, name: &[u8], socket: SocketId) -> usize
@@ -125,7 +128,7 @@ pub fn answer(buf: &mut [u8], at: usize, src: &[u8], a: EventAnswer) -> usize
     ensures { λ r. ⌜ Between (now (buf .entry)) at r (now (buf .exit)) ⌝ }
 {
     match a {
-        EventAnswer::Event(e) => event(buf, at, src, e),
+        EventAnswer::Event { event: e, past: _ } => event(buf, at, src, e),
         EventAnswer::Refused(e) => of_at(buf, at, e),
     }
 }
@@ -134,8 +137,33 @@ pub fn binary_answer(buf: &mut [u8], at: usize, src: &[u8], a: BinaryAnswer) -> 
     ensures { λ r. ⌜ Between (now (buf .entry)) at r (now (buf .exit)) ⌝ }
 {
     match a {
-        BinaryAnswer::Event(e) => event(buf, at, src, e),
+        BinaryAnswer::Event { event: e, past: _ } => event(buf, at, src, e),
         BinaryAnswer::NotBinary => word(buf, at, b"notbinary"),
         BinaryAnswer::Refused(e) => of_at(buf, at, e),
+    }
+}
+
+fn event_up_to(buf: &mut [u8], at: usize, src: &[u8], e: ATEvent, past: usize) -> usize
+    ensures { λ r. ⌜ Between (now (buf .entry)) at r (now (buf .exit)) ⌝ }
+{
+    let next = event(buf, at, src, e);
+    place_after(buf, next, past)
+}
+
+fn refused_at(buf: &mut [u8], at: usize, e: AtPacketError, place: usize) -> usize
+    ensures { λ r. ⌜ Between (now (buf .entry)) at r (now (buf .exit)) ⌝ }
+{
+    let next = of_at(buf, at, e);
+    place_after(buf, next, place)
+}
+
+// A step of a walk: an event with the place just past it, or a refusal with the place where the refused event begins.
+pub fn step(buf: &mut [u8], at: usize, src: &[u8], s: EventStep) -> usize
+    ensures { λ r. ⌜ Between (now (buf .entry)) at r (now (buf .exit)) ⌝ }
+{
+    match s {
+        EventStep::Event { event: e, rest } => event_up_to(buf, at, src, e, rest.at),
+        EventStep::End => word(buf, at, b"end"),
+        EventStep::Refused { error, at: place } => refused_at(buf, at, error, place),
     }
 }

@@ -35,6 +35,14 @@ pub fn count(buf: &mut [u8], at: usize, n: u64) -> usize
     word(buf, at, &digits[..k])
 }
 
+// A place in the bytes that were read.
+pub(crate) fn place_after(buf: &mut [u8], at: usize, place: usize) -> usize
+    ensures { λ r. ⌜ Between (now (buf .entry)) at r (now (buf .exit)) ⌝ }
+{
+    let next = word(buf, at, b" @");
+    count(buf, next, place as u64)
+}
+
 // A space, then a number.
 pub(crate) fn number_after(buf: &mut [u8], at: usize, n: u16) -> usize
     ensures { λ r. ⌜ Between (now (buf .entry)) at r (now (buf .exit)) ⌝ }

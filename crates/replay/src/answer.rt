@@ -5,6 +5,7 @@ use crate::question::Question;
 use crate::question::Reader;
 use crate::question::Writer;
 use crate::question::question_of;
+use crate::walk::every_event;
 use at::Text;
 use at::w26::EventAnswer as Event26;
 use at::w36::BinaryAnswer;
@@ -34,6 +35,7 @@ fn read(output: &mut [u8], place: usize, src: &[u8], reader: Reader) -> usize {
             src,
             at::w36::try_parse_binary(src, 0),
         ),
+        Reader::Walk36 => every_event(output, place, src),
         Reader::Response => render::response::answer(
             output,
             place,
@@ -45,7 +47,7 @@ fn read(output: &mut [u8], place: usize, src: &[u8], reader: Reader) -> usize {
 
 fn again26(output: &mut [u8], place: usize, target: &mut [u8], src: &[u8]) -> usize {
     match at::w26::read(src, 0) {
-        Event26::Event(e) => {
+        Event26::Event { event: e, past: _ } => {
             let a = writer::w26::write(target, src, e);
             render::written::event(output, place, target, a)
         }
@@ -66,14 +68,14 @@ fn write36(
 
 fn again36_text(output: &mut [u8], place: usize, target: &mut [u8], src: &[u8]) -> usize {
     match at::w36::read(src, 0) {
-        Event36::Event(e) => write36(output, place, target, src, e),
+        Event36::Event { event: e, past: _ } => write36(output, place, target, src, e),
         Event36::Refused(e) => of_at(output, place, e),
     }
 }
 
 fn again36(output: &mut [u8], place: usize, target: &mut [u8], src: &[u8]) -> usize {
     match at::w36::try_parse_binary(src, 0) {
-        BinaryAnswer::Event(e) => write36(output, place, target, src, e),
+        BinaryAnswer::Event { event: e, past: _ } => write36(output, place, target, src, e),
         BinaryAnswer::NotBinary => again36_text(output, place, target, src),
         BinaryAnswer::Refused(e) => of_at(output, place, e),
     }

@@ -5,6 +5,7 @@ mod decode;
 mod input;
 mod question;
 mod session;
+mod walk;
 
 use crate::session::Session;
 use crate::session::finish;

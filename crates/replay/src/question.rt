@@ -11,6 +11,7 @@ pub enum Reader {
     W26,
     W36,
     Binary,
+    Walk36,
     Response,
 }
 
@@ -59,6 +60,9 @@ fn kind_of(name: &[u8]) -> Kind {
     }
     if same(name, b"binary") {
         return Kind::Read(Reader::Binary);
+    }
+    if same(name, b"walk36") {
+        return Kind::Read(Reader::Walk36);
     }
     if same(name, b"response") {
         return Kind::Read(Reader::Response);

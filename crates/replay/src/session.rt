@@ -12,8 +12,11 @@ use text::bytes::part;
 // A line with more bytes is too long.
 const LONGEST: usize = 262144;
 
-// From this place on the output may lack room for the answer to a longest line: two digits for each of its bytes, names and numbers.
-const NEARLY_FULL: usize = 261888;
+// From this place on the output may lack room for the answer to a longest line. The longest answer is that of a walk over 131068 bytes. No
+// event has more text for its bytes than `\r\n+UEWAPSA:\r\n`: 13 bytes, of which a walk says `WifiAccessPointStationAssociated - @123456 ; `,
+// 45 characters. Bytes that a text, data or a number has beside add two characters each at most. So the events have at most 131068 * 45 / 13 =
+// 453697 characters; a refusal with its place, at most 50, and the line end come behind. That is less than the 458752 bytes from here on.
+const NEARLY_FULL: usize = 65536;
 
 // What is kept from one turn to the next: how many bytes at the start of the input are those of a line whose end was not read yet, whether
 // that line is too long and its bytes are gone, its number, how many bytes of the output are to be written, and whether reading and writing

@@ -1,5 +1,5 @@
 -- A text line with its name and fields is read as its event, over any radio whose names are plain and found at their own rows.
-use Prim.Native.Nat.{ℕ, suc, _+_, _-_, _≤_, _<_}
+use Prim.Native.Nat.{ℕ, suc, _+_, _-_, _<_}
 use mathlib.Core.Path.{_≡_, refl, sym, _∙_}
 use mathlib.Core.List.{List, [], _∷_, _++_, map, append-nil, append-assoc}
 use mathlib.Core.Bool.{Bool, true, false, not, _&&_, false≢true}
@@ -8,7 +8,7 @@ use native.Mathlib.Omega.{arith}
 use lib.Dec.{eqb, ltb}
 use lib.ListN.{length, take, drop, getD, length-append}
 use lib.Seq.{take-append-seam, take-append-add, drop-append-seam, drop-append-add, take-length}
-use borrow.Author.Tests.{lt-ltb, le-ltb, ltb-true, ltb-false, lt-leb, not-true}
+use borrow.Author.Tests.{lt-ltb, le-ltb, ltb-true, lt-leb, not-true}
 use Rattle.text.specs.Bytes.{bytes, same, every, without}
 use Rattle.text.specs.Find.{crlf}
 use Rattle.text.specs.Utf8.{utf8, continues, insideCharacter}
@@ -18,9 +18,10 @@ use Rattle.text.proofs.Every.{every-append}
 use Rattle.text.proofs.BytesLaws.{same-self}
 use Rattle.text.proofs.Utf8Joined.{utf8-plain, utf8-append, utf8-every}
 use Rattle.text.proofs.FieldJoin.{first-at, first-none, Plains, cellsFrom, cut-back}
-use Rattle.at.specs.Event.{Row, nameOf, kindsOf, Value, event, readRow}
+use Rattle.at.specs.Event.{Row, nameOf, kindsOf, Value, event, eventTo, readRow}
 use Rattle.at.specs.Line.{Radio, before, endsIn, body, ended, framed, hit, search as lookup, fieldsAfter, readText, readLine}
-use Rattle.at.proofs.LineLaws.{row-found, row-passed, ends-short}
+use Rattle.at.proofs.LineLaws.{row-found, row-passed}
+use Rattle.at.proofs.EndLaws.{ends-long}
 use Rattle.writer.specs.Line.{contentsOf, written, behindName}
 use Rattle.writer.specs.Write.{writableFields}
 use Rattle.writer.specs.Firmware.{TextValues, InTable, Added, Same}
@@ -33,7 +34,7 @@ unfoldable pub allRows : (Row → Bool) → List Row → Bool
 allRows test [] = true
 allRows test (r ∷ rows) = test r && allRows test rows
 
-all-rows : (test : Row → Bool) (rows : List Row) → allRows test rows ≡ true → (r : Row) → InTable r rows → test r ≡ true
+pub all-rows : (test : Row → Bool) (rows : List Row) → allRows test rows ≡ true → (r : Row) → InTable r rows → test r ≡ true
 unfolding allRows
 all-rows test [] h r i = absurd i
 all-rows test (q ∷ rows) h r i =
@@ -113,13 +114,6 @@ unfolding leads
 leads-more [] t e = absurd (false≢true e)
 leads-more (b ∷ s) t e = e
 
-pub ends-long : (t : List ℕ) → endsIn t crlf ≡ true → 2 ≤ length t
-ends-long t e = go (ltb (length t) 2) refl
-  where
-    go : (k : Bool) → ltb (length t) 2 ≡ k → 2 ≤ length t
-    go true q = absurd (false≢true (sym (ends-short t (ltb-true (length t) 2 q)) ∙ e))
-    go false q = ltb-false (length t) 2 q
-
 -- CR LF, a text, and a tail that ends in CR LF: the text and the tail without its end
 line-framed : (p : ℕ) (b tail : List ℕ) → utf8 b ≡ true → leads b ≡ true → utf8 tail ≡ true → endsIn tail crlf ≡ true
     → framed p (crlf ++ b ++ tail) ≡ body (p + 2) (b ++ take (length tail - 2) tail)
@@ -171,7 +165,23 @@ row-back src r vs p added h c =
     let q = fields-back p (map written (contentsOf src vs)) added c in
     rw (q .1, kinds-back src (kindsOf r) vs p (q .0) h)
 
--- The line of an event: its fields, any added ones, and a tail of which the radio keeps nothing
+-- The name of an event and its fields, any added ones behind them, hold UTF-8 without CR
+
+module _ (rows : List Row) (right : tableRight rows ≡ true) (src : List ℕ) (r : Row) (vs : List Value) (i : InTable r rows) (w : writableFields false src vs ≡ true)
+    (added : List (List ℕ)) (a : Added added)
+  where
+    pub body-utf8 : utf8 (nameOf r ++ behindName (textsOf src vs added)) ≡ true
+    body-utf8 =
+        utf8-append (nameOf r) (behindName (textsOf src vs added)) (name-utf8 rows right r i)
+        (behind-passes utf8 utf8-joins (textsOf src vs added) (each-append utf8 (map written (contentsOf src vs)) added (all-utf8 false src vs w) (added-utf8 added a)))
+
+    body-no-cr : without 13 (nameOf r ++ behindName (textsOf src vs added)) ≡ true
+    body-no-cr =
+        every-append (λ x. not (eqb x 13)) (nameOf r) (behindName (textsOf src vs added)) (name-no-cr rows right r i)
+        (behind-passes (without 13) cr-joins (textsOf src vs added)
+        (each-append (without 13) (map written (contentsOf src vs)) added (all-no-cr false src vs w) (added-no-cr added a)))
+
+-- The line of an event: its fields, any added ones, and a tail of which the radio keeps nothing and the event takes up CR LF
 
 -- where the fields begin in a line behind other bytes
 behind-front : (front name x tail : List ℕ) → drop (length front + 2 + length name) (front ++ (crlf ++ name ++ x ++ tail)) ≡ x ++ tail
@@ -181,36 +191,33 @@ behind-front front name x tail =
 
 module _ (radio : Radio) (right : tableRight (radio .rows) ≡ true) (tail : List ℕ) (u : utf8 tail ≡ true) (e : endsIn tail crlf ≡ true)
     (keeps : (b : List ℕ) → without 13 b ≡ true → radio .kept (b ++ take (length tail - 2) tail) ≡ b)
+    (takes : (b : List ℕ) → without 13 b ≡ true → radio .spans (crlf ++ b ++ tail) ≡ length (crlf ++ b ++ crlf))
     (src : List ℕ) (r : Row) (vs : List Value) (i : InTable r (radio .rows)) (t : TextValues (kindsOf r) vs) (w : writableFields false src vs ≡ true)
     (added : List (List ℕ)) (a : Added added)
   where
-    body-utf8 : utf8 (nameOf r ++ behindName (textsOf src vs added)) ≡ true
-    body-utf8 =
-        utf8-append (nameOf r) (behindName (textsOf src vs added)) (name-utf8 (radio .rows) right r i)
-        (behind-passes utf8 utf8-joins (textsOf src vs added) (each-append utf8 (map written (contentsOf src vs)) added (all-utf8 false src vs w) (added-utf8 added a)))
-
-    body-no-cr : without 13 (nameOf r ++ behindName (textsOf src vs added)) ≡ true
-    body-no-cr =
-        every-append (λ x. not (eqb x 13)) (nameOf r) (behindName (textsOf src vs added)) (name-no-cr (radio .rows) right r i)
-        (behind-passes (without 13) cr-joins (textsOf src vs added)
-        (each-append (without 13) (map written (contentsOf src vs)) added (all-no-cr false src vs w) (added-no-cr added a)))
-
     text-line-read : (p : ℕ)
-        → readLine radio p (crlf ++ nameOf r ++ behindName (textsOf src vs added) ++ tail) ≡ event r (valuesFrom (p + 2 + length (nameOf r) + 1) (contentsOf src vs))
+        → readLine radio p (crlf ++ nameOf r ++ behindName (textsOf src vs added) ++ tail)
+        ≡ eventTo r (valuesFrom (p + 2 + length (nameOf r) + 1) (contentsOf src vs)) (p + length (crlf ++ nameOf r ++ behindName (textsOf src vs added) ++ crlf))
     unfolding readLine
     text-line-read p =
         let x = behindName (textsOf src vs added) in
+        let c = body-no-cr (radio .rows) right src r vs i w added a in
         rw (
-          line-framed p (nameOf r ++ x) tail body-utf8 (leads-more (nameOf r) x (name-leads (radio .rows) right r i)) u e,
-          keeps (nameOf r ++ x) body-no-cr,
+          line-framed p (nameOf r ++ x) tail (body-utf8 (radio .rows) right src r vs i w added a) (leads-more (nameOf r) x (name-leads (radio .rows) right r i)) u e,
+          keeps (nameOf r ++ x) c,
+          takes (nameOf r ++ x) c,
           text-back (radio .rows) r (p + 2) (nameOf r) (textsOf src vs added) (name-found (radio .rows) right r i) (name-no-colon (radio .rows) right r i),
+          row-back src r vs (p + 2 + length (nameOf r) + 1) added t (all-plain false src vs w),
         )
-        (row-back src r vs (p + 2 + length (nameOf r) + 1) added t (all-plain false src vs w))
 
     pub text-line-same : (front : List ℕ)
         → Same src r vs (front ++ (crlf ++ nameOf r ++ behindName (textsOf src vs added) ++ tail))
+        (length (front ++ (crlf ++ nameOf r ++ behindName (textsOf src vs added) ++ crlf)))
         (readLine radio (length front) (crlf ++ nameOf r ++ behindName (textsOf src vs added) ++ tail))
     text-line-same front =
         let x = behindName (textsOf src vs added) in
-        rw (text-line-read (length front))
-        (refl, places-back (front ++ (crlf ++ nameOf r ++ x ++ tail)) (length front + 2 + length (nameOf r)) (contentsOf src vs) added tail (behind-front front (nameOf r) x tail))
+        rw (text-line-read (length front)) (
+          refl,
+          places-back (front ++ (crlf ++ nameOf r ++ x ++ tail)) (length front + 2 + length (nameOf r)) (contentsOf src vs) added tail (behind-front front (nameOf r) x tail),
+          sym (length-append front (crlf ++ nameOf r ++ x ++ crlf)),
+        )

@@ -8,6 +8,8 @@ pub mod FirmwareFields
 pub mod FirmwarePrograms
 pub mod FirmwareStillRead
 pub mod FirmwareText
+pub mod OneReadLaws
+pub mod OneReadPrograms
 pub mod OneOutcome
 pub mod PlanLaws
 pub mod RoomLaws

@@ -12,8 +12,16 @@ const EARLY: u32 = 5;
 const LENGTH: u32 = 6;
 const CUT: u32 = 7;
 
+/// An event, and now and then something behind it.
 pub fn line(rng: &mut Rng, out: &mut Vec<u8>) {
     let flaws = Flaws::new(rng);
+    event(rng, flaws, out);
+    if !flaws.has(CUT) && rng.one_in(4) {
+        pieces::rubbish(rng, out);
+    }
+}
+
+pub fn event(rng: &mut Rng, flaws: Flaws, out: &mut Vec<u8>) {
     let with_address = rng.one_in(2);
     push_prefix(rng, with_address, flaws.has(PREFIX), out);
     let start = out.len();
@@ -50,6 +58,7 @@ fn push_prefix(rng: &mut Rng, with_address: bool, flawed: bool, out: &mut Vec<u8
 }
 
 fn push_fields(rng: &mut Rng, with_address: bool, flaws: Flaws, out: &mut Vec<u8>) {
+    let start = out.len();
     let flawed = rng.below(2);
     pieces::number(rng, 255, flaws.has(NUMBER) && flawed == 0, out);
     if with_address {
@@ -64,14 +73,15 @@ fn push_fields(rng: &mut Rng, with_address: bool, flaws: Flaws, out: &mut Vec<u8
         match rng.below(3) {
             0 => out.extend_from_slice(b",1"),
             1 => out.push(b','),
-            _ => drop_last_comma(out),
+            _ => drop_last_comma(out, start),
         }
     }
 }
 
-fn drop_last_comma(out: &mut Vec<u8>) {
-    if let Some(at) = out.iter().rposition(|&b| b == b',') {
-        out.truncate(at);
+/// The last comma among the fields, which begin at `start`, and what stands behind it.
+fn drop_last_comma(out: &mut Vec<u8>, start: usize) {
+    if let Some(at) = out[start..].iter().rposition(|&b| b == b',') {
+        out.truncate(start + at);
     }
 }
 
@@ -80,7 +90,7 @@ fn push_marker(rng: &mut Rng, flawed: bool, out: &mut Vec<u8>) {
     out.extend_from_slice(if flawed { rng.pick(&odd) } else { b"\x01" });
 }
 
-/// The two length bytes, the data, and now and then something behind them.
+/// The two length bytes and the data.
 fn push_data(rng: &mut Rng, flaws: Flaws, out: &mut Vec<u8>) {
     let start = out.len();
     let count = if rng.one_in(60) { 250 + rng.below(12) } else { rng.below(8) };
@@ -98,7 +108,5 @@ fn push_data(rng: &mut Rng, flaws: Flaws, out: &mut Vec<u8>) {
     if flaws.has(CUT) {
         let kept = rng.below(out.len() - start + 1).min(rng.below(6));
         out.truncate(start + kept);
-    } else if rng.one_in(4) {
-        pieces::rubbish(rng, out);
     }
 }

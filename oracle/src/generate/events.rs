@@ -61,6 +61,10 @@ const END: u32 = 7;
 
 pub fn line(rng: &mut Rng, rows: &Rows, out: &mut Vec<u8>) {
     let flaws = Flaws::new(rng);
+    line_with(rng, rows, flaws, out);
+}
+
+pub fn line_with(rng: &mut Rng, rows: &Rows, flaws: Flaws, out: &mut Vec<u8>) {
     let (name, fields) = pick_row(rng, rows);
     pieces::lead(rng, flaws.has(LEAD), out);
     push_name(rng, name, flaws.has(NAME), out);

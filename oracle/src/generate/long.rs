@@ -1,14 +1,18 @@
-//! Inputs around the largest frame: a payload of 4,093 bytes is the last that a length can tell.
+//! Inputs around the largest frame: a payload of 4,093 bytes is the last that a length can tell. And
+//! walks over many events.
 
-use super::{frames, writes};
+use super::{frames, walks, writes};
 use crate::record::Call;
 use crate::rng::Rng;
 
 const LARGEST_PAYLOAD: usize = 4_093;
 
+/// The bytes of a line with as many digits as `replay` takes, 262,144 bytes with `walk36` before them.
+const LARGEST_WALK: usize = 131_068;
+
 pub fn make(rng: &mut Rng, out: &mut Vec<u8>) -> Call {
     let payload = LARGEST_PAYLOAD - 2 + rng.below(10);
-    match rng.below(6) {
+    match rng.below(7) {
         0 | 1 => {
             frame(rng, payload, out);
             Call::Frame
@@ -24,6 +28,11 @@ pub fn make(rng: &mut Rng, out: &mut Vec<u8>) -> Call {
         4 => {
             push_line(rng, b"\r\n+UUWAPSTAC:0,", payload, b"\r\n", out);
             Call::Again26 { size: size(rng, payload) }
+        }
+        5 => {
+            let size = if rng.one_in(20) { LARGEST_WALK } else { payload };
+            walks::repeated(rng, size, out);
+            Call::Walk36
         }
         _ => {
             out.extend_from_slice(b"\r\n+UESODB:2\x01");

@@ -7,6 +7,7 @@ mod frames;
 mod long;
 mod pieces;
 mod responses;
+mod walks;
 mod writes;
 
 use crate::record::{self, Call};
@@ -22,10 +23,11 @@ struct Flaws(u32);
 
 impl Flaws {
     const KINDS: usize = 8;
+    const NONE: Flaws = Flaws(0);
 
     fn new(rng: &mut Rng) -> Flaws {
         match rng.below(20) {
-            0..=10 => Flaws(0),
+            0..=10 => Flaws::NONE,
             11..=17 => Flaws(1 << rng.below(Flaws::KINDS)),
             _ => Flaws(1 << rng.below(Flaws::KINDS) | 1 << rng.below(Flaws::KINDS)),
         }
@@ -57,23 +59,27 @@ impl Maker {
 
 fn make(rng: &mut Rng, bytes: &mut Vec<u8>) -> Call {
     let call = match rng.below(100) {
-        0..=19 => {
+        0..=17 => {
             events::line(rng, &events::W26, bytes);
             Call::W26
         }
-        20..=36 => {
+        18..=31 => {
             events::line(rng, &events::W36, bytes);
             Call::W36
         }
-        37..=48 => {
+        32..=41 => {
             binary::line(rng, bytes);
             Call::Binary
         }
-        49..=57 => {
+        42..=53 => {
+            walks::buffer(rng, bytes);
+            Call::Walk36
+        }
+        54..=61 => {
             responses::text(rng, bytes);
             Call::Response
         }
-        58..=77 => {
+        62..=79 => {
             frames::frame(rng, bytes);
             Call::Frame
         }

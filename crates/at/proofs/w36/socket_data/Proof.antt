@@ -6,8 +6,8 @@ use lib.ListN.{length, drop}
 use Rattle.at.specs.Event.{readField, takeKind, takeKinds}
 use Rattle.at.specs.Binary.{markedAt, findMarker, readFields}
 use Rattle.at.specs.W36.{UESODB}
-use Rattle.at.specs.Steps.{markedOf}
-use Rattle.at.proofs.BinaryLaws.{marked-inside, body-unmarked, body-marked, up-to-none}
+use Rattle.at.specs.Steps.{markedOf, dataOf}
+use Rattle.at.proofs.BinaryLaws.{marked-inside, data-inside, body-unmarked, body-marked, up-to-none}
 use borrow.Author.Needs.{needs}
 use Rattle.at.proofs.w36.socket_data.Statement.{statement}
 use Rattle.at.proofs.w36.socket_data.Tie as tie
@@ -57,6 +57,13 @@ enum-known-e-2 c = search needs
 enum-known-data : tie.Need-enum-known-data
 enum-known-data c = search needs
 
+add-t20 : tie.Need-add-t20
+add-t20 c = let a = c .before .before .before .before .before .before .before .before .before .before .before .before .before .before .before .args in
+    let l = inside (c .before .before .before .before .before .before .before .before .before .before) in
+    let at = a .start + c .before .before .before .before .before .before .before .before .before .before .before .len .given .0 .0 + 1 in
+    let d = data-inside (a .s .now) at (omega arith) (sym (ap dataOf (c .before .before .«data» .given .1)) ∙ c .before .before .before .before .data-at .ensures) in
+    omega (arith, d .1, c .before .before .before .before .before .before .before .before .before .before .before .before .before .before .before .good)
+
 returns : tie.Need-returns
 returns c =
     let a = c .before .before .before .before .before .args in
@@ -86,16 +93,16 @@ returns-3 c =
 returns-4 : tie.Need-returns-4
 unfolding readField takeKind takeKinds readFields UESODB
 returns-4 c =
-    let p = c .before .before .before .before .before .before .before in
+    let p = c .before .before .before .before .before .before .before .before in
     let a = p .before .before .before .before .before .before .before .args in
     rw (
       body-marked UESODB (a .s .now) (a .start) (marked (p .before .before)),
       up-to-none,
       ← p .before .part .ensures,
       ← p .read8 .ensures,
-      c .before .before .before .before .before .n .given .1,
-      ← c .before .before .before .data-at .ensures,
-      c .before .«data» .given .1,
+      c .before .before .before .before .before .before .n .given .1,
+      ← c .before .before .before .before .data-at .ensures,
+      c .before .before .«data» .given .1,
     )
 
 pub socket-data-spec : {M : Type 1} → statement M
@@ -114,6 +121,7 @@ socket-data-spec =
     data-at-requires
     enum-known-e-2
     enum-known-data
+    add-t20
     returns
     returns-2
     returns-3

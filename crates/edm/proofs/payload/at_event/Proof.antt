@@ -21,7 +21,7 @@ returns : tie.Need-returns
 returns c = rw (← c .before .before .before .read .ensures) (c .event-refused .ensures)
 
 returns-2 : tie.Need-returns-2
-returns-2 c = rw (← c .before .before .before .read .ensures, c .before .a .given .1) (sym (event-packet (c .before .a .given .0 .0)))
+returns-2 c = rw (← c .before .before .before .read .ensures, c .before .a .given .1) (sym (event-packet (c .before .a .given .0 .1 .0) (c .before .a .given .0 .0)))
 
 pub at-event-spec : {M : Type 1} → statement M
 at-event-spec =

@@ -15,7 +15,7 @@ returns : tie.Need-returns
 returns c = rw (c .before .a .given .1)
 
 returns-2 : tie.Need-returns-2
-returns-2 c = rw (c .before .a2 .given .1) (sym (event-packet (c .before .a2 .given .0 .0)))
+returns-2 c = rw (c .before .a2 .given .1) (sym (event-packet (c .before .a2 .given .0 .1 .0) (c .before .a2 .given .0 .0)))
 
 pub event-refused-spec : {M : Type 1} → statement M
 event-refused-spec = tie.close (tie.spec enum-known-a enum-known-a-2 returns returns-2)
