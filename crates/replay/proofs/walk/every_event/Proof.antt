@@ -1,25 +1,13 @@
 -- `every_event` is safe and ends: each event moves the walk on, and not past the end of the bytes.
-use Prim.Native.Nat.{ℕ, _-_, _≤_, _<_}
+use Prim.Native.Nat.{_-_}
 use mathlib.Core.Path.{_≡_, sym, ap, _∙_}
-use mathlib.Core.List.{List}
 use native.Mathlib.Omega.{arith}
 use lib.ListN.{length}
 use borrow.Author.Needs.{needs}
-use Rattle.at.specs.Event.{Outcome, event, refusal, upTo}
-use Rattle.at.specs.W36.{eventOf}
-use Rattle.at.specs.Walk.{stepFrom, stepAt, shown}
-use Rattle.at.specs.declared.w36.ATEvent.{ATEvent}
-use Rattle.at.proofs.WalkLaws.{event-step, moves}
+use Rattle.at.specs.Walk.{shown}
+use Rattle.at.proofs.WalkLaws.{event-moves}
 use Rattle.replay.proofs.walk.every_event.Statement.{statement}
 use Rattle.replay.proofs.walk.every_event.Tie as tie
-
--- the step of an event that ends at the place q is past its own place p, and not past the end
-onward : (s : List ℕ) (p q : ℕ) (e : ATEvent) → stepFrom q (upTo q (eventOf e)) ≡ stepAt s p → (p < q) × (q ≤ length s)
-onward s p q e = go (eventOf e) (event-step 0 1 q e)
-  where
-    go : (o : Outcome) → stepFrom 0 (upTo q o) ≡ stepFrom 1 (upTo q o) → stepFrom q (upTo q o) ≡ stepAt s p → (p < q) × (q ≤ length s)
-    go (event r vs) same h = moves s p r vs q (sym h)
-    go (refusal n) same h = let f : _≡_ {A = ℕ} 0 1 = cc in absurd (omega arith)
 
 abbrev Inv-loop : tie.InvT-loop
 Inv-loop output₀ place src walk₀ to₀ t8 output walk to = length output ≡ length output₀
@@ -57,7 +45,7 @@ word-requires c κs = search needs
 loop-less : tie.Need-loop-less Inv-loop μ-loop
 loop-less c =
     let got = c .before .before .before .before .before .before .step2 .given in
-    let h = onward _ _ (got .0 .1 .0 .at) (got .0 .0) (ap shown (sym (got .1)) ∙ c .before .before .before .before .before .before .before .before .before .before .before .before .next .ensures) in
+    let h = event-moves _ _ (got .0 .0) (got .0 .1 .0) (ap shown (sym (got .1)) ∙ c .before .before .before .before .before .before .before .before .before .before .before .before .next .ensures) in
     omega (arith, h .0, h .1)
 
 loop-again : tie.Need-loop-again Inv-loop μ-loop
