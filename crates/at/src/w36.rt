@@ -8,6 +8,7 @@ use crate::binary::Marked;
 use crate::binary::address_fields;
 use crate::binary::data_at;
 use crate::binary::find_marker;
+use crate::binary::no_number;
 use crate::field::ByteField;
 use crate::field::Link;
 use crate::field::Pair;
@@ -26,6 +27,8 @@ use text::bytes::part;
 use text::bytes::same;
 use text::bytes::starts_at;
 use text::field::Fields;
+use text::find::Found;
+use text::find::first_byte;
 use text::number::Number8;
 use text::number::read8;
 ghost use mathlib.Core.Path.{_≡_};
@@ -294,17 +297,15 @@ pub fn read(s: &[u8], from: usize) -> EventAnswer
     }
 }
 
-// The event +UESODB whose one field starts at `start`: the whole text up to the marker, which no comma cuts.
+// The event +UESODB whose one field starts at `start`: the whole text up to the marker, which no comma cuts. A number is UTF-8 as it stands.
 fn socket_data(s: &[u8], start: usize) -> BinaryAnswer
     ensures { λ r. ⌜ shownBinary r ≡ tried (readBody UESODB start (drop start (now (s .entry)))) ⌝ }
 {
-    match find_marker(s, start) {
-        Marked::Refused(e) => BinaryAnswer::Refused(e),
-        Marked::Behind(len) => match read8(part(s, start, len)) {
-            Number8::Refused => BinaryAnswer::Refused(
-                AtPacketError::TypeDecodeParameterDataTypeInvalid,
-            ),
-            Number8::Value(n) => match data_at(s, start + len + 1) {
+    match first_byte(s, start, 1) {
+        Found::Nothing => BinaryAnswer::Refused(AtPacketError::FramingDecodeFailed),
+        Found::At(marker) => match read8(part(s, start, marker - start)) {
+            Number8::Refused => BinaryAnswer::Refused(no_number(part(s, start, marker - start))),
+            Number8::Value(n) => match data_at(s, marker + 1) {
                 Data::Refused(e) => BinaryAnswer::Refused(e),
                 Data::Got(data) => BinaryAnswer::Event {
                     event: ATEvent::SocketDataBinary {
