@@ -1,5 +1,5 @@
--- The promise of `command::write` allows one outcome only, in the answer and in every byte of the lent buffer, and wrong writers break it. It is the function's
--- own contract: `write.Reads.Post` is what `write` ensures. Assumes nothing.
+-- The promises of `command::write`, and of the functions that write one command each, allow one outcome only, in the answer and in every byte of the lent
+-- buffer, and wrong writers break that of `write`. They are the functions' own contracts: `write.Reads.Post` is what `write` ensures. Assumes nothing.
 use Prim.Native.Nat.{ℕ, _+_, _≤_}
 use mathlib.Core.Path.{_≡_, refl, sym, ap, _∙_}
 use mathlib.Core.List.{List, [], _∷_, _++_}
@@ -11,7 +11,7 @@ use lib.ListN.{length, take, drop, getD}
 use lib.Seq.{take-at}
 use Rattle.text.proofs.OneOutcome.{One}
 use Rattle.edm.specs.Refusal.{refusalNo}
-use Rattle.edm.specs.Command.{frame, commandOf, Written, bytes, refused, toWrite, Outcome, wrote, refusal, outcome, after, shown}
+use Rattle.edm.specs.Command.{frame, command, commandOf, Written, bytes, refused, toWrite, Outcome, wrote, refusal, outcome, after, shown}
 use Rattle.edm.specs.declared.EdmPacketError.{EdmPacketError}
 use Rattle.edm.specs.declared.EdmPacketError.the-variants as error
 use Rattle.edm.specs.declared.EdmPacket.{EdmPacket}
@@ -19,7 +19,10 @@ use Rattle.edm.specs.declared.EdmPacket.the-variants as is
 use Rattle.edm.specs.declared.WriteAnswer.{WriteAnswer}
 use Rattle.edm.specs.declared.WriteAnswer.the-variants as answer
 use Rattle.edm.proofs.Refusals.{errorOf, error-back}
-use Rattle.edm.proofs.CommandLaws.{frame-length, within, takes, framed}
+use Rattle.edm.proofs.CommandLaws.{frame-length, within, takes, as-command, framed}
+use Rattle.edm.proofs.command.write_data as write-data
+use Rattle.edm.proofs.command.write_request as write-request
+use Rattle.edm.proofs.command.write_resend as write-resend
 use Rattle.edm.proofs.command.write as write
 
 -- `shown` tells any two answers apart: it has a left inverse
@@ -35,6 +38,15 @@ pub shown-injective : (r q : WriteAnswer) → shown r ≡ shown q → r ≡ q
 shown-injective r q e = sym (back r) ∙ ap unshown e ∙ back q
 
 -- the answer, and every byte of the lent buffer
+pub one-data : One 2 write-data.Kinds.ps write-data.Kinds.r write-data.Reads.Post (λ κs x s. x) × One 2 write-data.Kinds.ps write-data.Kinds.r write-data.Reads.Post (λ κs x s. s .0 .now)
+one-data = ((λ κs a x y s t p q. shown-injective x y (p .answers ∙ sym (q .answers))), λ κs a x y s t p q. p .leaves ∙ sym (q .leaves))
+
+pub one-request : One 2 write-request.Kinds.ps write-request.Kinds.r write-request.Reads.Post (λ κs x s. x) × One 2 write-request.Kinds.ps write-request.Kinds.r write-request.Reads.Post (λ κs x s. s .0 .now)
+one-request = ((λ κs a x y s t p q. shown-injective x y (p .answers ∙ sym (q .answers))), λ κs a x y s t p q. p .leaves ∙ sym (q .leaves))
+
+pub one-resend : One 1 write-resend.Kinds.ps write-resend.Kinds.r write-resend.Reads.Post (λ κs x s. x) × One 1 write-resend.Kinds.ps write-resend.Kinds.r write-resend.Reads.Post (λ κs x s. s .0 .now)
+one-resend = ((λ κs a x y s t p q. shown-injective x y (p .answers ∙ sym (q .answers))), λ κs a x y s t p q. p .leaves ∙ sym (q .leaves))
+
 pub one-write : One 2 write.Kinds.ps write.Kinds.r write.Reads.Post (λ κs x s. x) × One 2 write.Kinds.ps write.Kinds.r write.Reads.Post (λ κs x s. s .0 .now)
 one-write = ((λ κs a x y s t p q. shown-injective x y (p .answers ∙ sym (q .answers))), λ κs a x y s t p q. p .leaves ∙ sym (q .leaves))
 
@@ -94,6 +106,7 @@ module _ (κs : Lfts 2) (a : Dens κs write.Kinds.ps) (e : AtExit (endedOf 2 wri
   -- a writer that refuses everything
   pub resend-is-written : (x : EdmPacketError) → a .1 .1 .0 ≡ is.ResendConnectEvents → 6 ≤ length buf → write.Reads.Post κs a (answer.Refused x) e → ⊥
   resend-is-written x r h p =
-      let w = takes (length buf) (a .1 .0 .now) (a .1 .1 .0) h (ap (commandOf (a .1 .0 .now)) r) ∙ within (length buf) 0x56 [] (omega arith) (omega arith) in
+      let k = as-command (length buf) (a .1 .0 .now) (a .1 .1 .0) (ap (commandOf (a .1 .0 .now)) r) in
+      let w = k ∙ takes (length buf) (command 0x56 []) h ∙ within (length buf) 0x56 [] (omega arith) (omega arith) in
       let z : _≡_ {A = ℕ} 0 1 = cc (p .answers) in
       omega arith

@@ -13,7 +13,7 @@ use Rattle.text.specs.Bytes.{part}
 use Rattle.text.specs.Utf8.{utf8}
 use Rattle.text.specs.Put.{after as put}
 use Rattle.text.proofs.PutAppend.{after-append, after-front}
-use Rattle.edm.specs.Command.{frame, Command, command, refuse, commandOf, inSource, requestOf, toWrite, Written, bytes, refused, fitted, wrote, refusal, outcome, after, shown, Writes}
+use Rattle.edm.specs.Command.{frame, Command, command, refuse, commandOf, inSource, requestOf, toSend, toWrite, Written, bytes, refused, fitted, wrote, refusal, outcome, after, shown, Writes}
 use Rattle.edm.specs.declared.WriteAnswer.{WriteAnswer}
 use Rattle.edm.specs.declared.WriteAnswer.the-variants as answer
 use Rattle.edm.specs.declared.EdmPacket.{EdmPacket}
@@ -94,19 +94,27 @@ unfolding part
 no-part s = refl
 
 -- a buffer of six bytes and more takes the command, and a shorter one is refused
-module _ (room : ℕ) (src : List ℕ) (p : EdmPacket) where
-  pub takes : {k : Command} → 6 ≤ room → commandOf src p ≡ k → toWrite room src p ≡ fitted room k
-  unfolding toWrite
-  takes h e = rw (le-ltb room 6 h, e)
+module _ (room : ℕ) (k : Command) where
+  pub takes : 6 ≤ room → toSend room k ≡ fitted room k
+  unfolding toSend
+  takes h = rw (le-ltb room 6 h)
 
-  pub takes-none : room < 6 → toWrite room src p ≡ refused 2
-  unfolding toWrite
+  pub takes-none : room < 6 → toSend room k ≡ refused 2
+  unfolding toSend
   takes-none h = rw (lt-ltb room 6 h)
 
--- so a write of the command is a write of the packet
-pub writes : (b src : List ℕ) (p : EdmPacket) {k : Command} {r : WriteAnswer} {e : List ℕ} → 6 ≤ length b → commandOf src p ≡ k
-    → Writes b (fitted (length b) k) r e → Writes b (toWrite (length b) src p) r e
-writes b src p h q w = rw (takes (length b) src p h q) w
+-- so where the command is fitted into such a buffer, it is sent
+pub sends : (b : List ℕ) (k : Command) {r : WriteAnswer} {e : List ℕ} → 6 ≤ length b → Writes b (fitted (length b) k) r e → Writes b (toSend (length b) k) r e
+sends b k h w = rw (takes (length b) k h) w
+
+-- a packet is written as its command is sent
+pub as-command : (room : ℕ) (src : List ℕ) (p : EdmPacket) {k : Command} → commandOf src p ≡ k → toWrite room src p ≡ toSend room k
+unfolding toWrite
+as-command room src p q = rw q
+
+pub writes : (b src : List ℕ) (p : EdmPacket) {k : Command} {r : WriteAnswer} {e : List ℕ} → commandOf src p ≡ k
+    → Writes b (toSend (length b) k) r e → Writes b (toWrite (length b) src p) r e
+writes b src p q w = rw (as-command (length b) src p q) w
 
 -- bytes to write are the frame of the packet's command, which is within both bounds
 pub record Framed (room : ℕ) (k : Command) (f : List ℕ) : Type 0 where
@@ -118,7 +126,7 @@ pub record Framed (room : ℕ) (k : Command) (f : List ℕ) : Type 0 where
   pub roomy : length payload + 6 ≤ room
 
 pub framed : (room : ℕ) (src : List ℕ) (p : EdmPacket) (f : List ℕ) → toWrite room src p ≡ bytes f → Framed room (commandOf src p) f
-unfolding toWrite
+unfolding toSend toWrite
 framed room src p f e = go (ltb room 6) (commandOf src p) e
   where
     fits : (id : ℕ) (t : List ℕ) (l m : Bool) → leb (length t) 4093 ≡ l → leb (length t + 6) room ≡ m

@@ -19,7 +19,7 @@ use Rattle.at.specs.W36.{UESOC, UESOCL, UESODA, UEWLU, UEWLD, UEWAPSA, UEWAPSDA
 use Rattle.edm.specs.Packet.{Outcome, packet, refusal, startPacket, dataPacket, identifiers, carried}
 use Rattle.edm.specs.Payload.{readDataEvent}
 use Rattle.edm.specs.Frame.{readFrame}
-use Rattle.edm.specs.Command.{Written, bytes as written, refused, frame, toWrite}
+use Rattle.edm.specs.Command.{Written, bytes as written, refused, frame, toSend, toWrite}
 use Rattle.edm.specs.declared.EdmPacket.{EdmPacket}
 use Rattle.edm.specs.declared.EdmPacket.the-variants.{ATRequest, ResendConnectEvents}
 
@@ -64,5 +64,5 @@ examples =
     ∷ []
 
 pub all-hold : All examples
-unfolding same startsWith part firstOf lastBelow lastOf fieldsFrom digitsFrom under digits signed number table37 seqLen passed validUpTo utf8 insideCharacter readField takeKind takeKinds readRow before endsIn ended framed search fieldsAfter readText readLine fieldsUpTo readFields findMarker readData readBody tryRows readRest readResponse readResponseBody w26.table UUDPC UUDPD UUWLE UUWLD UUWAPU UUWAPD UUWAPSTAC UUWAPSTAD UUETHLU UUETHLD UUNU UUND UUNERR w36.table UESOC UESOCL UESODA UEWLU UEWLD UEWAPSA UEWAPSDA UEWAPU UEWAPD UEWSNU UESODB binaryTable identifiers carried readDataEvent readFrame frame toWrite
+unfolding same startsWith part firstOf lastBelow lastOf fieldsFrom digitsFrom under digits signed number table37 seqLen passed validUpTo utf8 insideCharacter readField takeKind takeKinds readRow before endsIn ended framed search fieldsAfter readText readLine fieldsUpTo readFields findMarker readData readBody tryRows readRest readResponse readResponseBody w26.table UUDPC UUDPD UUWLE UUWLD UUWAPU UUWAPD UUWAPSTAC UUWAPSTAD UUETHLU UUETHLD UUNU UUND UUNERR w36.table UESOC UESOCL UESODA UEWLU UEWLD UEWAPSA UEWAPSDA UEWAPU UEWAPD UEWSNU UESODB binaryTable identifiers carried readDataEvent readFrame frame toSend toWrite
 all-hold = (refl, (refl, (refl, (refl, (refl, (refl, (refl, (refl, (refl, (refl, (refl, (refl, (refl, (refl, (refl, tt)))))))))))))))

@@ -57,8 +57,11 @@ fitted room (command id payload) = cond (leb (length payload) 4093 && leb (lengt
 fitted room (refuse n) = refused n
 
 -- a buffer under 6 bytes is 2, before all else
+unfoldable pub toSend : ℕ → Command → Written
+toSend room c = cond (ltb room 6) (refused 2) (fitted room c)
+
 unfoldable pub toWrite : ℕ → List ℕ → EdmPacket → Written
-toWrite room src p = cond (ltb room 6) (refused 2) (fitted room (commandOf src p))
+toWrite room src p = toSend room (commandOf src p)
 
 -- the answer: the number of bytes written, or the refusal
 pub data Outcome : Type 0 where

@@ -7,10 +7,10 @@ use text::bytes::part;
 use text::put::put;
 use text::utf8::is_utf8;
 ghost use mathlib.Core.Path.{_≡_};
-ghost use mathlib.Core.List.{_∷_, _++_};
+ghost use mathlib.Core.List.{[], _∷_, _++_};
 ghost use Prim.Native.Nat.{_+_, _≤_};
 ghost use lib.ListN.{length};
-ghost use Rattle.edm.specs.Command.{command, inSource, requestOf, fitted, toWrite, refusal, shown, Writes};
+ghost use Rattle.edm.specs.Command.{command, requestOf, fitted, toSend, toWrite, refusal, shown, Writes};
 
 // The frame of an identifier whose payload is `before`, `body` and `behind`.
 fn write_frame(
@@ -50,33 +50,40 @@ fn write_frame(
     WriteAnswer::Wrote(n + 6)
 }
 
-fn write_data(buf: &mut [u8], src: &[u8], channel: u8, start: usize, len: usize) -> WriteAnswer
-    requires { ⌜ 6 ≤ length (now buf) ⌝ }
-    ensures { λ r. ⌜ Writes (now (buf .entry)) (fitted (length (now (buf .entry))) (inSource (now (src .entry)) start len (λ t. command 0x36 (channel ∷ t)))) r (now (buf .exit)) ⌝ }
+// The frame of a data command.
+pub fn write_data(buf: &mut [u8], channel: u8, data: &[u8]) -> WriteAnswer
+    ensures { λ r. ⌜ Writes (now (buf .entry)) (toSend (length (now (buf .entry))) (command 0x36 (channel ∷ now («data» .entry)))) r (now (buf .exit)) ⌝ }
 {
-    if has_part(src, start, len) {
-        let first = [channel];
-        write_frame(buf, 0x36, &first, part(src, start, len), part(src, 0, 0))
+    if buf.len() < 6 {
+        return WriteAnswer::Refused(EdmPacketError::PacketDecodeTargetMemorySizeInvalid);
+    }
+    let first = [channel];
+    write_frame(buf, 0x36, &first, data, part(data, 0, 0))
+}
+
+// The frame of an AT request.
+pub fn write_request(buf: &mut [u8], text: &[u8]) -> WriteAnswer
+    ensures { λ r. ⌜ Writes (now (buf .entry)) (toSend (length (now (buf .entry))) (requestOf (now (text .entry)))) r (now (buf .exit)) ⌝ }
+{
+    if buf.len() < 6 {
+        return WriteAnswer::Refused(EdmPacketError::PacketDecodeTargetMemorySizeInvalid);
+    }
+    if is_utf8(text) {
+        let cr = [13u8];
+        write_frame(buf, 0x44, part(text, 0, 0), text, &cr)
     } else {
-        WriteAnswer::Refused(EdmPacketError::PacketEncodePayloadSizeInvalid)
+        WriteAnswer::Refused(EdmPacketError::AtRequestEventDecodeError)
     }
 }
 
-fn write_request(buf: &mut [u8], src: &[u8], start: usize, len: usize) -> WriteAnswer
-    requires { ⌜ 6 ≤ length (now buf) ⌝ }
-    ensures { λ r. ⌜ Writes (now (buf .entry)) (fitted (length (now (buf .entry))) (inSource (now (src .entry)) start len requestOf)) r (now (buf .exit)) ⌝ }
+// The frame that asks for the connect events again.
+pub fn write_resend(buf: &mut [u8]) -> WriteAnswer
+    ensures { λ r. ⌜ Writes (now (buf .entry)) (toSend (length (now (buf .entry))) (command 0x56 [])) r (now (buf .exit)) ⌝ }
 {
-    if has_part(src, start, len) {
-        let text = part(src, start, len);
-        if is_utf8(text) {
-            let cr = [13u8];
-            write_frame(buf, 0x44, part(src, 0, 0), text, &cr)
-        } else {
-            WriteAnswer::Refused(EdmPacketError::AtRequestEventDecodeError)
-        }
-    } else {
-        WriteAnswer::Refused(EdmPacketError::PacketEncodePayloadSizeInvalid)
+    if buf.len() < 6 {
+        return WriteAnswer::Refused(EdmPacketError::PacketDecodeTargetMemorySizeInvalid);
     }
+    write_frame(buf, 0x56, b"", b"", b"")
 }
 
 fn no_command() -> WriteAnswer
@@ -89,25 +96,26 @@ fn no_command() -> WriteAnswer
 pub fn write(buf: &mut [u8], src: &[u8], p: EdmPacket) -> WriteAnswer
     ensures { λ r. ⌜ Writes (now (buf .entry)) (toWrite (length (now (buf .entry))) (now (src .entry)) p) r (now (buf .exit)) ⌝ }
 {
+    // Tested here too, since it goes before 9 and before a place past the end.
     if buf.len() < 6 {
         return WriteAnswer::Refused(EdmPacketError::PacketDecodeTargetMemorySizeInvalid);
     }
     match p {
-        EdmPacket::DataCommand { channel, data } => write_data(
-            buf,
-            src,
-            channel.0,
-            data.start,
-            data.len,
-        ),
-        EdmPacket::ATRequest(t) => write_request(buf, src, t.start, t.len),
-        EdmPacket::ResendConnectEvents => write_frame(
-            buf,
-            0x56,
-            part(src, 0, 0),
-            part(src, 0, 0),
-            part(src, 0, 0),
-        ),
+        EdmPacket::DataCommand { channel, data } => {
+            if has_part(src, data.start, data.len) {
+                write_data(buf, channel.0, part(src, data.start, data.len))
+            } else {
+                WriteAnswer::Refused(EdmPacketError::PacketEncodePayloadSizeInvalid)
+            }
+        }
+        EdmPacket::ATRequest(t) => {
+            if has_part(src, t.start, t.len) {
+                write_request(buf, part(src, t.start, t.len))
+            } else {
+                WriteAnswer::Refused(EdmPacketError::PacketEncodePayloadSizeInvalid)
+            }
+        }
+        EdmPacket::ResendConnectEvents => write_resend(buf),
         EdmPacket::ConnectEvent {
             channel: _,
             event: _,
