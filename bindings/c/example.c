@@ -1,0 +1,58 @@
+/* Every call of mirvoncle.h once or twice, on examples of document 01. example.stdout holds what it prints. */
+#include <stdio.h>
+
+#include "mirvoncle.h"
+
+/* The bytes of a literal without its final 0, and how many they are. A byte 0 inside is a byte like any other. */
+#define LENT(literal) ((const uint8_t *)(literal)), (sizeof(literal) - 1)
+
+static void read_as(const char *what, uint8_t code)
+{
+    if (code == 0) {
+        printf("%s: accepted\n", what);
+    } else if (code == MIRVONCLE_NOT_BINARY) {
+        printf("%s: not binary\n", what);
+    } else {
+        printf("%s: refused %u\n", what, (unsigned)code);
+    }
+}
+
+static void written_as(const char *what, const uint8_t *buf, size_t code)
+{
+    size_t i;
+
+    if (code >= MIRVONCLE_REFUSED) {
+        printf("%s: refused %u\n", what, (unsigned)(code - MIRVONCLE_REFUSED));
+        return;
+    }
+    printf("%s:", what);
+    for (i = 0; i < code; i++) {
+        printf(" %02X", (unsigned)buf[i]);
+    }
+    printf("\n");
+}
+
+int main(void)
+{
+    uint8_t buf[16] = {0};
+
+    read_as("start frame", mirvoncle_frame(LENT("\xAA\x00\x02\x00\x71\x55")));
+    read_as("frame with a wrong length", mirvoncle_frame(LENT("\xAA\x00\x05\x00\x31\x01\x07\x55")));
+    read_as("W26 +UUDPD:65535", mirvoncle_w26(LENT("\r\n+UUDPD:65535\r\n")));
+    read_as("W26 +UUDPD:65536", mirvoncle_w26(LENT("\r\n+UUDPD:65536\r\n")));
+    read_as("W36 +UEWSNU", mirvoncle_w36(LENT("\r\n+UEWSNU\r\n\r\n+UESOC:1\r\n")));
+    read_as("W36 line without a name", mirvoncle_w36(LENT("\r\n\r\n")));
+    read_as("W36 binary +UESODB:2", mirvoncle_w36_binary(LENT("\r\n+UESODB:2\x01\x00\x01\xFF")));
+    read_as("W36 binary +UESODB:2 without data", mirvoncle_w36_binary(LENT("\r\n+UESODB:2")));
+    read_as("W36 binary +UEWSNU", mirvoncle_w36_binary(LENT("\r\n+UEWSNU\r\n")));
+    read_as("response +A OK", mirvoncle_response(LENT("\r\n+A\r\nOK\r\n")));
+    read_as("response without CR LF", mirvoncle_response(LENT("OK")));
+    printf("UTF-8 before a surrogate: %u\n", (unsigned)mirvoncle_utf8_prefix(LENT("A\xED\xA0\x80")));
+
+    written_as("data on channel 3", buf, mirvoncle_write_data(buf, sizeof buf, 3, LENT("A")));
+    written_as("request AT", buf, mirvoncle_write_request(buf, sizeof buf, LENT("AT")));
+    written_as("request that is not UTF-8", buf, mirvoncle_write_request(buf, sizeof buf, LENT("\xFF")));
+    written_as("resend", buf, mirvoncle_write_resend(buf, sizeof buf));
+    written_as("resend into 5 bytes", buf, mirvoncle_write_resend(buf, 5));
+    return 0;
+}

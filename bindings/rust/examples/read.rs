@@ -1,0 +1,53 @@
+//! Every call once or twice, on examples of document 01. read.stdout holds what it prints.
+
+use mirvoncle::{Binary, Refusal};
+
+fn read_as(what: &str, outcome: Result<(), Refusal>) {
+    match outcome {
+        Ok(()) => println!("{what}: accepted"),
+        Err(e) => println!("{what}: refused {} {e:?}", e.number()),
+    }
+}
+
+fn written_as(what: &str, buf: &[u8], outcome: Result<usize, Refusal>) {
+    match outcome {
+        Ok(n) => {
+            let bytes: Vec<String> = buf[..n].iter().map(|b| format!("{b:02X}")).collect();
+            println!("{what}: {}", bytes.join(" "));
+        }
+        Err(e) => println!("{what}: refused {} {e:?}", e.number()),
+    }
+}
+
+fn binary_as(what: &str, outcome: Result<Binary, Refusal>) {
+    match outcome {
+        Ok(Binary::Event) => println!("{what}: accepted"),
+        Ok(Binary::NotBinary) => println!("{what}: not binary"),
+        Err(e) => println!("{what}: refused {} {e:?}", e.number()),
+    }
+}
+
+fn main() {
+    read_as("start frame", mirvoncle::frame(b"\xAA\x00\x02\x00\x71\x55"));
+    read_as("frame with a wrong length", mirvoncle::frame(b"\xAA\x00\x05\x00\x31\x01\x07\x55"));
+    read_as("W26 +UUDPD:65535", mirvoncle::w26(b"\r\n+UUDPD:65535\r\n"));
+    read_as("W26 +UUDPD:65536", mirvoncle::w26(b"\r\n+UUDPD:65536\r\n"));
+    read_as("W36 +UEWSNU", mirvoncle::w36(b"\r\n+UEWSNU\r\n\r\n+UESOC:1\r\n"));
+    read_as("W36 line without a name", mirvoncle::w36(b"\r\n\r\n"));
+    binary_as("W36 binary +UESODB:2", mirvoncle::w36_binary(b"\r\n+UESODB:2\x01\x00\x01\xFF"));
+    binary_as("W36 binary +UESODB:2 without data", mirvoncle::w36_binary(b"\r\n+UESODB:2"));
+    binary_as("W36 binary +UEWSNU", mirvoncle::w36_binary(b"\r\n+UEWSNU\r\n"));
+    read_as("response +A OK", mirvoncle::response(b"\r\n+A\r\nOK\r\n"));
+    read_as("response without CR LF", mirvoncle::response(b"OK"));
+    println!("UTF-8 before a surrogate: {}", mirvoncle::utf8_prefix(b"A\xED\xA0\x80"));
+
+    let mut buf = [0; 16];
+    let data = mirvoncle::write_data(&mut buf, 3, b"A");
+    written_as("data on channel 3", &buf, data);
+    let request = mirvoncle::write_request(&mut buf, "AT");
+    written_as("request AT", &buf, request);
+    let resend = mirvoncle::write_resend(&mut buf);
+    written_as("resend", &buf, resend);
+    let short = mirvoncle::write_resend(&mut buf[..5]);
+    written_as("resend into 5 bytes", &buf, short);
+}

@@ -1,0 +1,41 @@
+-- Each call's promise allows one outcome only: two outcomes that meet it at the same arguments agree in the number, and in every byte of a lent
+-- buffer. The promises are taken from the functions' own contracts: `frame.Reads.Post` is what `mirvoncle_frame` ensures. Assumes nothing.
+use mathlib.Core.Path.{sym, _∙_}
+use Rattle.text.proofs.OneOutcome.{One}
+use Rattle.abi.proofs.mirvoncle_frame as frame
+use Rattle.abi.proofs.mirvoncle_w26 as w26
+use Rattle.abi.proofs.mirvoncle_w36 as w36
+use Rattle.abi.proofs.mirvoncle_w36_binary as binary
+use Rattle.abi.proofs.mirvoncle_response as response
+use Rattle.abi.proofs.mirvoncle_utf8_prefix as utf8-prefix
+use Rattle.abi.proofs.mirvoncle_write_data as write-data
+use Rattle.abi.proofs.mirvoncle_write_request as write-request
+use Rattle.abi.proofs.mirvoncle_write_resend as write-resend
+
+pub one-frame : One 1 frame.Kinds.ps frame.Kinds.r frame.Reads.Post (λ κs x s. x)
+one-frame κs a x y s t p q = p ∙ sym q
+
+pub one-w26 : One 1 w26.Kinds.ps w26.Kinds.r w26.Reads.Post (λ κs x s. x)
+one-w26 κs a x y s t p q = p ∙ sym q
+
+pub one-w36 : One 1 w36.Kinds.ps w36.Kinds.r w36.Reads.Post (λ κs x s. x)
+one-w36 κs a x y s t p q = p ∙ sym q
+
+pub one-binary : One 1 binary.Kinds.ps binary.Kinds.r binary.Reads.Post (λ κs x s. x)
+one-binary κs a x y s t p q = p ∙ sym q
+
+pub one-response : One 1 response.Kinds.ps response.Kinds.r response.Reads.Post (λ κs x s. x)
+one-response κs a x y s t p q = p ∙ sym q
+
+pub one-utf8-prefix : One 1 utf8-prefix.Kinds.ps utf8-prefix.Kinds.r utf8-prefix.Reads.Post (λ κs x s. x)
+one-utf8-prefix κs a x y s t p q = p ∙ sym q
+
+-- of a write the number, and every byte of the lent buffer
+pub one-data : One 2 write-data.Kinds.ps write-data.Kinds.r write-data.Reads.Post (λ κs x s. x) × One 2 write-data.Kinds.ps write-data.Kinds.r write-data.Reads.Post (λ κs x s. s .0 .now)
+one-data = ((λ κs a x y s t p q. p .answers ∙ sym (q .answers)), λ κs a x y s t p q. p .leaves ∙ sym (q .leaves))
+
+pub one-request : One 2 write-request.Kinds.ps write-request.Kinds.r write-request.Reads.Post (λ κs x s. x) × One 2 write-request.Kinds.ps write-request.Kinds.r write-request.Reads.Post (λ κs x s. s .0 .now)
+one-request = ((λ κs a x y s t p q. p .answers ∙ sym (q .answers)), λ κs a x y s t p q. p .leaves ∙ sym (q .leaves))
+
+pub one-resend : One 1 write-resend.Kinds.ps write-resend.Kinds.r write-resend.Reads.Post (λ κs x s. x) × One 1 write-resend.Kinds.ps write-resend.Kinds.r write-resend.Reads.Post (λ κs x s. s .0 .now)
+one-resend = ((λ κs a x y s t p q. p .answers ∙ sym (q .answers)), λ κs a x y s t p q. p .leaves ∙ sym (q .leaves))
