@@ -72,11 +72,11 @@ fn by_ours(kind: Kind, input: &[u8], buffer: &mut [u8]) -> usize {
     }
 }
 
-/// The numbers of document 01, "Numbered refusals". `PacketTypeDecodingFailed` has none: no path
-/// returns it.
+/// The numbers of document 01, "Numbered refusals". `PacketTypeDecodingFailed` has none, since no path
+/// returns it: what stands for it here agrees with no answer.
 fn edm_number(error: EdmPacketError) -> usize {
     match error {
-        EdmPacketError::PacketTypeDecodingFailed => 0,
+        EdmPacketError::PacketTypeDecodingFailed => usize::MAX - REFUSED,
         EdmPacketError::PacketDecodeFramingInvalid => 1,
         EdmPacketError::PacketDecodeTargetMemorySizeInvalid => 2,
         EdmPacketError::PacketTypeDecodeLengthMismatch => 3,

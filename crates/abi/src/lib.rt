@@ -2,6 +2,7 @@
 use at::AtPacketError;
 use at::response::ResponseAnswer;
 use at::w36::BinaryAnswer;
+use edm::Channel;
 use edm::EdmPacketError;
 use edm::FrameAnswer;
 use edm::WriteAnswer;
@@ -123,7 +124,7 @@ pub extern "C" fn mirvoncle_utf8_prefix(s: &[u8]) -> usize
 pub extern "C" fn mirvoncle_write_data(buf: &mut [u8], channel: u8, data: &[u8]) -> usize
     ensures { λ r. ⌜ Sends (now (buf .entry)) (toSend (length (now (buf .entry))) (command 0x36 (channel ∷ now («data» .entry)))) r (now (buf .exit)) ⌝ }
 {
-    written(edm::command::write_data(buf, channel, data))
+    written(edm::command::write_data(buf, Channel(channel), data))
 }
 
 #[no_mangle]

@@ -1,4 +1,5 @@
 // A command packet, written as an EDM frame.
+use crate::Channel;
 use crate::EdmPacket;
 use crate::EdmPacketError;
 use crate::WriteAnswer;
@@ -51,13 +52,13 @@ fn write_frame(
 }
 
 // The frame of a data command.
-pub fn write_data(buf: &mut [u8], channel: u8, data: &[u8]) -> WriteAnswer
-    ensures { λ r. ⌜ Writes (now (buf .entry)) (toSend (length (now (buf .entry))) (command 0x36 (channel ∷ now («data» .entry)))) r (now (buf .exit)) ⌝ }
+pub fn write_data(buf: &mut [u8], channel: Channel, data: &[u8]) -> WriteAnswer
+    ensures { λ r. ⌜ Writes (now (buf .entry)) (toSend (length (now (buf .entry))) (command 0x36 (channel .0 ∷ now («data» .entry)))) r (now (buf .exit)) ⌝ }
 {
     if buf.len() < 6 {
         return WriteAnswer::Refused(EdmPacketError::PacketDecodeTargetMemorySizeInvalid);
     }
-    let first = [channel];
+    let first = [channel.0];
     write_frame(buf, 0x36, &first, data, part(data, 0, 0))
 }
 
@@ -103,7 +104,7 @@ pub fn write(buf: &mut [u8], src: &[u8], p: EdmPacket) -> WriteAnswer
     match p {
         EdmPacket::DataCommand { channel, data } => {
             if has_part(src, data.start, data.len) {
-                write_data(buf, channel.0, part(src, data.start, data.len))
+                write_data(buf, channel, part(src, data.start, data.len))
             } else {
                 WriteAnswer::Refused(EdmPacketError::PacketEncodePayloadSizeInvalid)
             }
