@@ -1,6 +1,6 @@
 -- The promises of `command::write`, and of the functions that write one command each, allow one outcome only, in the answer and in every byte of the lent
 -- buffer, and wrong writers break that of `write`. They are the functions' own contracts: `write.Reads.Post` is what `write` ensures. Assumes nothing.
-use Prim.Native.Nat.{ℕ, _+_, _≤_}
+use Prim.Native.Nat.{ℕ, _+_, _≤_, _<_}
 use mathlib.Core.Path.{_≡_, refl, sym, ap, _∙_}
 use mathlib.Core.List.{List, [], _∷_, _++_}
 use native.Mathlib.Omega.{arith}
@@ -10,8 +10,10 @@ use borrow.Fn.Kinds.{Dens, endedOf}
 use lib.ListN.{length, take, drop, getD}
 use lib.Seq.{take-at}
 use Rattle.text.proofs.OneOutcome.{One}
+use Rattle.at.specs.declared.Text.{Text}
 use Rattle.edm.specs.Refusal.{refusalNo}
-use Rattle.edm.specs.Command.{frame, command, commandOf, Written, bytes, refused, toWrite, Outcome, wrote, refusal, outcome, after, shown}
+use Rattle.edm.specs.Command.{frame, Command, command, inSource, requestOf, commandOf, Written, bytes, refused, toWrite, Outcome, wrote, refusal, outcome, after, shown}
+use Rattle.edm.specs.declared.Channel.{Channel}
 use Rattle.edm.specs.declared.EdmPacketError.{EdmPacketError}
 use Rattle.edm.specs.declared.EdmPacketError.the-variants as error
 use Rattle.edm.specs.declared.EdmPacket.{EdmPacket}
@@ -19,7 +21,7 @@ use Rattle.edm.specs.declared.EdmPacket.the-variants as is
 use Rattle.edm.specs.declared.WriteAnswer.{WriteAnswer}
 use Rattle.edm.specs.declared.WriteAnswer.the-variants as answer
 use Rattle.edm.proofs.Refusals.{errorOf, error-back}
-use Rattle.edm.proofs.CommandLaws.{frame-length, within, takes, as-command, framed}
+use Rattle.edm.proofs.CommandLaws.{frame-length, within, takes, as-command, framed, in-source}
 use Rattle.edm.proofs.command.write_data as write-data
 use Rattle.edm.proofs.command.write_request as write-request
 use Rattle.edm.proofs.command.write_resend as write-resend
@@ -102,6 +104,27 @@ module _ (κs : Lfts 2) (a : Dens κs write.Kinds.ps) (e : AtExit (endedOf 2 wri
   -- a refused write that has changed a byte
   pub refused-changes-nothing : (x : EdmPacketError) → write.Reads.Post κs a (answer.Refused x) e → e .0 .now ≡ buf
   refused-changes-nothing x p = p .leaves ∙ refused-bytes (refusalNo x) buf toPut (p .answers)
+
+  -- a length is answered only where the source has the place that the command is made of
+  in-place : (n start len : ℕ) (make : List ℕ → Command) → commandOf (a .1 .0 .now) (a .1 .1 .0) ≡ inSource (a .1 .0 .now) start len make
+      → write.Reads.Post κs a (answer.Wrote n) e → start + len ≤ length (a .1 .0 .now)
+  in-place n start len make m p =
+      let w = says-the-length n p in
+      let f = framed (length buf) (a .1 .0 .now) (a .1 .1 .0) (w .0) (w .1) in
+      in-source (a .1 .0 .now) start len make (f .id) (f .payload) (sym m ∙ f .commands) .0
+
+  -- a writer that sends data, or a request, whose place runs past the source
+  pub past-source-refused : (n : ℕ) (c : Channel) (d : Text) → a .1 .1 .0 ≡ is.DataCommand c d → length (a .1 .0 .now) < d .start + d .len
+      → write.Reads.Post κs a (answer.Wrote n) e → ⊥
+  past-source-refused n c d r h p =
+      let i = in-place n (d .start) (d .len) (λ t. command 0x36 (c .0 ∷ t)) (ap (commandOf (a .1 .0 .now)) r) p in
+      omega arith
+
+  pub past-source-refused-request : (n : ℕ) (t : Text) → a .1 .1 .0 ≡ is.ATRequest t → length (a .1 .0 .now) < t .start + t .len
+      → write.Reads.Post κs a (answer.Wrote n) e → ⊥
+  past-source-refused-request n t r h p =
+      let i = in-place n (t .start) (t .len) requestOf (ap (commandOf (a .1 .0 .now)) r) p in
+      omega arith
 
   -- a writer that refuses everything
   pub resend-is-written : (x : EdmPacketError) → a .1 .1 .0 ≡ is.ResendConnectEvents → 6 ≤ length buf → write.Reads.Post κs a (answer.Refused x) e → ⊥

@@ -1,6 +1,12 @@
-use mathlib.Core.Path.{refl, sym, ap, _∙_}
+use mathlib.Core.Path.{_≡_, refl, sym, ap, _∙_}
+use mathlib.Core.List.{List}
+use mathlib.Core.Bool.{Bool, true, false}
+use Prim.Native.Nat.{ℕ, _+_}
 use native.Mathlib.Omega.{arith}
+use lib.Dec.{leb}
+use lib.ListN.{length}
 use denote.Ref.{now}
+use Rattle.at.specs.declared.Text.{Text}
 use Rattle.edm.specs.Command.{commandOf}
 use Rattle.edm.proofs.CommandLaws.{refuses, takes, takes-none, writes}
 use borrow.Author.Needs.{needs}
@@ -14,6 +20,10 @@ use Rattle.edm.proofs.command.write_request.Reads as write-request-read
 use Rattle.edm.proofs.command.write_resend.Reads as write-resend-reads
 use Rattle.text.proofs.bytes.has_part.Reads as has-part-reads
 use Rattle.text.proofs.bytes.part.Reads as part-reads
+
+-- whether the place lies in the source
+abbrev has : List ℕ → Text → Bool
+has src t = leb (t .start + t .len) (length src)
 
 -- src/command.rt:101:9
 returns : tie.Need-returns
@@ -113,13 +123,17 @@ same-length c = search needs
 
 -- src/command.rt:96:1
 returns-2 : tie.Need-returns-2
-returns-2 c = let h = sym (c .before .before .before .before .before .before .has-part .ensures) ∙ c .before .before .before .before .before .if2 .taken in
-    writes _ _ _ (ap (commandOf (now (c .before .before .before .before .before .before .before .before .before .before .before .before .before .args .src))) (c .before .before .before .before .before .before .before .before .p .given .1)) (rw (h, ← c .before .before .before .part .ensures) (c .before .before .write-data .ensures))
+returns-2 c = let src = now (c .before .before .before .before .before .before .before .before .before .before .before .before .before .args .src) in
+    let p = c .before .before .before .before .before .before .before .before .p .given in
+    let h : has src (p .0 .1 .0) ≡ true = sym (c .before .before .before .before .before .before .has-part .ensures) ∙ c .before .before .before .before .before .if2 .taken in
+    writes _ _ _ (ap (commandOf src) (p .1)) (rw (h, ← c .before .before .before .part .ensures) (c .before .before .write-data .ensures))
 
 -- src/command.rt:96:1
 returns-3 : tie.Need-returns-3
-returns-3 c = let h = sym (c .before .has-part .ensures) ∙ c .if2 .left in
-    writes _ _ _ (ap (commandOf (now (c .before .before .before .before .before .before .before .before .args .src))) (c .before .before .before .p .given .1)) (rw h (refuses _ 10 (takes _ _ (omega (arith, c .before .before .before .before .before))) refl))
+returns-3 c = let src = now (c .before .before .before .before .before .before .before .before .args .src) in
+    let p = c .before .before .before .p .given in
+    let h : has src (p .0 .1 .0) ≡ false = sym (c .before .has-part .ensures) ∙ c .if2 .left in
+    writes _ _ _ (ap (commandOf src) (p .1)) (rw h (refuses _ 10 (takes _ _ (omega (arith, c .before .before .before .before .before))) refl))
 
 -- src/command.rt:96:1
 same-length-2 : tie.Need-same-length-2
@@ -127,13 +141,17 @@ same-length-2 c = search needs
 
 -- src/command.rt:96:1
 returns-4 : tie.Need-returns-4
-returns-4 c = let h = sym (c .before .before .before .before .before .before .has-part2 .ensures) ∙ c .before .before .before .before .before .if3 .taken in
-    writes _ _ _ (ap (commandOf (now (c .before .before .before .before .before .before .before .before .before .before .before .before .before .args .src))) (c .before .before .before .before .before .before .before .before .p2 .given .1)) (rw (h, ← c .before .before .before .part2 .ensures) (c .before .before .write-request .ensures))
+returns-4 c = let src = now (c .before .before .before .before .before .before .before .before .before .before .before .before .before .args .src) in
+    let p = c .before .before .before .before .before .before .before .before .p2 .given in
+    let h : has src (p .0 .0) ≡ true = sym (c .before .before .before .before .before .before .has-part2 .ensures) ∙ c .before .before .before .before .before .if3 .taken in
+    writes _ _ _ (ap (commandOf src) (p .1)) (rw (h, ← c .before .before .before .part2 .ensures) (c .before .before .write-request .ensures))
 
 -- src/command.rt:96:1
 returns-5 : tie.Need-returns-5
-returns-5 c = let h = sym (c .before .has-part2 .ensures) ∙ c .if3 .left in
-    writes _ _ _ (ap (commandOf (now (c .before .before .before .before .before .before .before .before .args .src))) (c .before .before .before .p2 .given .1)) (rw h (refuses _ 10 (takes _ _ (omega (arith, c .before .before .before .before .before))) refl))
+returns-5 c = let src = now (c .before .before .before .before .before .before .before .before .args .src) in
+    let p = c .before .before .before .p2 .given in
+    let h : has src (p .0 .0) ≡ false = sym (c .before .has-part2 .ensures) ∙ c .if3 .left in
+    writes _ _ _ (ap (commandOf src) (p .1)) (rw h (refuses _ 10 (takes _ _ (omega (arith, c .before .before .before .before .before))) refl))
 
 -- src/command.rt:96:1
 same-length-3 : tie.Need-same-length-3
