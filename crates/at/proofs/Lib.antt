@@ -1,6 +1,10 @@
-pub mod EventLaws
 pub mod FieldLaws
 pub mod LineLaws
+pub mod TakeLaws
+pub mod NameLaws
+pub mod TableLaws
+pub mod PartsLaws
+pub mod TableTests
 pub mod EndLaws
 pub mod BinaryLaws
 pub mod WalkLaws

@@ -1,79 +1,76 @@
 -- What the private answers of the code say in the definitions' terms. No promise of a public function cites this file.
-use Prim.Native.Nat.{ℕ}
-use mathlib.Core.List.{List, [], _∷_}
-use mathlib.Core.Bool.{Bool}
-use lib.ListN.{take, drop}
-use Rattle.text.specs.Field.{Field, left}
+use Prim.Native.Nat.{ℕ, suc, _%_, _^_, _≤_, _<_}
+use Prim.Native.Char.{code}
+use mathlib.Core.Path.{_≡_}
+use mathlib.Core.List.{List, [], _∷_, map}
+use mathlib.Core.Bool.{cond}
+use lib.Dec.{eqb}
+use lib.ListN.{length, take, drop, getD}
 use Rattle.at.specs.Refusal.{refusalNo}
-use Rattle.at.specs.Event.{Row, num, at, Outcome, refusal, Taken, took, stop, Read, values, refused}
-use Rattle.at.specs.Line.{Framed, body, broken, Hit, hit, miss}
+use Rattle.at.specs.Event.{Kind, bits, text, ipType, protocol, reason, Row, kindsOf as rowKinds, Value, num, place, at, Outcome, event, refusal, One, good, bad, Read, values, refused}
+use Rattle.at.specs.Line.{Hit, hit, miss, Framed, body, broken}
+use Rattle.at.specs.Table.{lettersOf, Tabled}
+use Rattle.at.specs.Parts.{rowNo}
 use Rattle.at.specs.Binary.{Marked, markedAt, unmarked, Data, dataAt, noData}
 use Rattle.at.specs.W26 as w26
-use Rattle.at.specs.W36 as w36
-use Rattle.at.specs.declared.field.ByteField as byte
-use Rattle.at.specs.declared.field.WordField as word
-use Rattle.at.specs.declared.field.TextField as text
-use Rattle.at.specs.declared.field.Pair as pair
-use Rattle.at.specs.declared.field.TextAndWord as both
-use Rattle.at.specs.declared.field.Link as link
-use Rattle.at.specs.declared.line.Framed as framed
 use Rattle.at.specs.declared.binary.Marked as mark
 use Rattle.at.specs.declared.binary.Data as data·
 use Rattle.at.specs.declared.binary.AddressFields as address
-use Rattle.at.specs.declared.w26.TypeField as type·
-use Rattle.at.specs.declared.w26.ProtocolField as protocol
-use Rattle.at.specs.declared.w26.ReasonField as reason
-use Rattle.at.specs.declared.w26.Connection as connection
-use Rattle.at.specs.declared.w26.Numbered as numbered
-use Rattle.at.specs.declared.w26.Name as name26
-use Rattle.at.specs.declared.w26.Told as told26
-use Rattle.at.specs.declared.w36.SocketName as socket
-use Rattle.at.specs.declared.w36.StationName as station
-use Rattle.at.specs.declared.w36.BareName as bare
-use Rattle.at.specs.declared.w36.Name as name36
-use Rattle.at.specs.declared.w36.Told as told36
+use Rattle.at.specs.declared.field.Field.{Field}
+use Rattle.at.specs.declared.field.FieldAnswer as answer
+use Rattle.at.specs.declared.table.Named as named
+use Rattle.at.specs.declared.table.Kinds.{Kinds}
+use Rattle.at.specs.declared.field.Stop as stop
+use Rattle.at.specs.declared.field.Taken.{Taken}
+use Rattle.at.specs.declared.line.Framed as framed
+use Rattle.at.specs.declared.w26.PeerConnectedProfile.{PeerConnectedProfile}
+use Rattle.at.specs.declared.w26.PeerConnectedProfile.the-variants as profile
+use Rattle.at.specs.declared.w26.WifiLinkDisconnectedReason.{WifiLinkDisconnectedReason}
+use Rattle.at.specs.declared.w26.WifiLinkDisconnectedReason.the-variants as why
+use Rattle.at.specs.declared.parts.Value as value
+use Rattle.at.specs.declared.parts.Parts.{Parts}
 
--- one field, taken by a walk over the text s
-abbrev pub takenByte : List ℕ → byte.ByteField → Taken
-takenByte s (byte.the-variants.Got n w) = took (num n) (left s w)
-takenByte s (byte.the-variants.Refused e) = stop (refusalNo e)
+abbrev pub profileOf : ℕ → PeerConnectedProfile
+profileOf n = cond (eqb n 1) profile.TCP (cond (eqb n 2) profile.UDP profile.MQTT)
 
-abbrev pub takenWord : List ℕ → word.WordField → Taken
-takenWord s (word.the-variants.Got n w) = took (num n) (left s w)
-takenWord s (word.the-variants.Refused e) = stop (refusalNo e)
+abbrev pub reasonOf : ℕ → WifiLinkDisconnectedReason
+reasonOf n =
+    cond (eqb n 0) why.Unknown
+    (cond (eqb n 1) why.RemoteClose
+    (cond (eqb n 2) why.OutOfRange (cond (eqb n 3) why.Roaming (cond (eqb n 4) why.SecurityProblems why.NetworkDisabled))))
 
-abbrev pub takenText : List ℕ → text.TextField → Taken
-takenText s (text.the-variants.Got t w) = took (at t) (left s w)
-takenText s (text.the-variants.Refused e) = stop (refusalNo e)
+abbrev pub noField : Field
+noField = record { value = 0; len = 0 }
 
-abbrev pub takenType : List ℕ → type·.TypeField → Taken
-takenType s (type·.the-variants.Got is6 w) = took (num (w26.typeNo is6)) (left s w)
-takenType s (type·.the-variants.Refused e) = stop (refusalNo e)
+-- the value of a field that was taken for a kind
+abbrev pub valueOf : Kind → Field → Value
+valueOf (bits w) f = num (f .value % 2 ^ w)
+valueOf text f = place (f .value) (f .len)
+valueOf ipType f = num (w26.typeNo (eqb (f .value) 3))
+valueOf protocol f = num (w26.profileNo (profileOf (f .value)))
+valueOf reason f = num (w26.reasonNo (reasonOf (f .value)))
 
-abbrev pub takenProtocol : List ℕ → protocol.ProtocolField → Taken
-takenProtocol s (protocol.the-variants.Got p w) = took (num (w26.profileNo p)) (left s w)
-takenProtocol s (protocol.the-variants.Refused e) = stop (refusalNo e)
+-- the values of the fields from a place on
+unfoldable pub valuesOf : List Kind → ℕ → List Field → List Value
+valuesOf [] i fs = []
+valuesOf (k ∷ ks) i fs = valueOf k (getD fs i noField) ∷ valuesOf ks (suc i) fs
 
-abbrev pub takenReason : List ℕ → reason.ReasonField → Taken
-takenReason s (reason.the-variants.Got r w) = took (num (w26.reasonNo r)) (left s w)
-takenReason s (reason.the-variants.Refused e) = stop (refusalNo e)
+abbrev pub oneOf : Kind → answer.FieldAnswer → One
+oneOf k (answer.the-variants.Got f) = good (valueOf k f)
+oneOf k (answer.the-variants.Refused e) = bad (refusalNo e)
 
--- several fields
-abbrev pub readPair : List ℕ → pair.Pair → Read
-readPair s (pair.the-variants.Got a b w) = values (num a ∷ num b ∷ []) (left s w)
-readPair s (pair.the-variants.Refused e) = refused (refusalNo e)
+-- what a row's fields are read as: the values that stand in the array, with any fields after them, or what stopped it
+abbrev pub withoutRest : Read → Read
+withoutRest (values vs fs) = values vs []
+withoutRest (refused n) = refused n
 
-abbrev pub readTextAndWord : List ℕ → both.TextAndWord → Read
-readTextAndWord s (both.the-variants.Got t n w) = values (at t ∷ num n ∷ []) (left s w)
-readTextAndWord s (both.the-variants.Refused e) = refused (refusalNo e)
+abbrev pub stopped : List Value → stop.Stop → Read
+stopped vs stop.the-variants.Nowhere = values vs []
+stopped vs (stop.the-variants.Refused e) = refused (refusalNo e)
 
-abbrev pub readLink : List ℕ → link.Link → Read
-readLink s (link.the-variants.Got i t n w) = values (num i ∷ at t ∷ num n ∷ []) (left s w)
-readLink s (link.the-variants.Refused e) = refused (refusalNo e)
-
-abbrev pub readConnection : List ℕ → connection.Connection → Read
-readConnection s (connection.the-variants.Got h is6 p w) = values (num h ∷ num (w26.typeNo is6) ∷ num (w26.profileNo p) ∷ []) (left s w)
-readConnection s (connection.the-variants.Refused e) = refused (refusalNo e)
+pub record Took (i : ℕ) (ks : List Kind) (r : Read) (t : Taken) : Type 0 where
+  pub same-row : t .stop ≡ stop.the-variants.Nowhere → t .row ≡ i
+  pub same-read : stopped (valuesOf ks 0 (t .fields)) (t .stop) ≡ withoutRest r
 
 -- the framing of a line of s
 abbrev pub framedOf : List ℕ → framed.Framed → Framed
@@ -93,56 +90,66 @@ abbrev pub addressOf : address.AddressFields → Read
 addressOf (address.the-variants.Got n ip port) = values (num n ∷ at ip ∷ num port ∷ []) []
 addressOf (address.the-variants.Refused e) = refused (refusalNo e)
 
--- an event whose end is not told yet
-abbrev pub toldW26 : told26.Told → Outcome
-toldW26 (told26.the-variants.Event e) = w26.eventOf e
-toldW26 (told26.the-variants.Refused e) = refusal (refusalNo e)
+-- the kind that a letter of a row stands for, and those of its letters
+unfoldable pub kindOf : ℕ → Kind
+kindOf c =
+    cond (eqb c (code "b")) (bits 8)
+    (cond (eqb c (code "w")) (bits 16) (cond (eqb c (code "i")) ipType (cond (eqb c (code "p")) protocol (cond (eqb c (code "r")) reason text))))
 
-abbrev pub toldW36 : told36.Told → Outcome
-toldW36 (told36.the-variants.Event e) = w36.eventOf e
-toldW36 (told36.the-variants.Refused e) = refusal (refusalNo e)
+abbrev pub kindsIn : List ℕ → List Kind
+kindsIn cs = map kindOf cs
 
--- the rows that the code's names stand for
-abbrev pub numberedRow : numbered.Numbered → Row
-numberedRow numbered.the-variants.PeerDisconnected = w26.UUDPD
-numberedRow numbered.the-variants.WifiAccessPointUp = w26.UUWAPU
-numberedRow numbered.the-variants.WifiAccessPointDown = w26.UUWAPD
-numberedRow numbered.the-variants.StationDisconnected = w26.UUWAPSTAD
-numberedRow numbered.the-variants.NetworkUp = w26.UUNU
-numberedRow numbered.the-variants.NetworkDown = w26.UUND
+abbrev pub kindsOf : Kinds → List Kind
+kindsOf k = kindsIn (take (k .count) (k .letters))
 
-abbrev pub hitW26 : name26.Name → Hit
-hitW26 name26.the-variants.PeerConnected = hit w26.UUDPC
-hitW26 (name26.the-variants.Numbered k) = hit (numberedRow k)
-hitW26 name26.the-variants.WifiLinkConnected = hit w26.UUWLE
-hitW26 name26.the-variants.WifiLinkDisconnected = hit w26.UUWLD
-hitW26 name26.the-variants.StationConnected = hit w26.UUWAPSTAC
-hitW26 name26.the-variants.EthernetLinkUp = hit w26.UUETHLU
-hitW26 name26.the-variants.EthernetLinkDown = hit w26.UUETHLD
-hitW26 name26.the-variants.NetworkError = hit w26.UUNERR
-hitW26 name26.the-variants.Unknown = miss
+pub record Held (k : Kinds) : Type 0 where
+  pub room : length (k .letters) ≡ 7
+  pub few : k .count ≤ 7
 
-abbrev pub socketRow : socket.SocketName → Row
-socketRow socket.the-variants.Connected = w36.UESOC
-socketRow socket.the-variants.Closed = w36.UESOCL
+-- the letters of a table say its kinds
+abbrev pub Legible : List Row → Type 0
+Legible rows = map (λ r. kindsIn (lettersOf r)) rows ≡ map rowKinds rows
 
-abbrev pub stationRow : station.StationName → Row
-stationRow station.the-variants.Associated = w36.UEWAPSA
-stationRow station.the-variants.Disassociated = w36.UEWAPSDA
+-- bytes that are those of some table
+abbrev pub SomeTable : List ℕ → Type 0
+SomeTable s = (rows : List Row) × Tabled rows s
 
-abbrev pub bareRow : bare.BareName → Row
-bareRow bare.the-variants.WifiAccessPointUp = w36.UEWAPU
-bareRow bare.the-variants.WifiAccessPointDown = w36.UEWAPD
-bareRow bare.the-variants.StationNetworkUp = w36.UEWSNU
-bareRow bare.the-variants.StationNetworkDown = w36.UEWSND
-bareRow bare.the-variants.AccessPointNetworkUp = w36.UEWAPNU
-bareRow bare.the-variants.AccessPointNetworkDown = w36.UEWAPND
+-- the row that a search finds, by its number
+abbrev pub Finds : List Row → Hit → named.Named → Type 0
+Finds rows h (named.the-variants.Row i) = (i < length rows) × (h ≡ rowNo rows i)
+Finds rows h named.the-variants.Nothing = h ≡ miss
 
-abbrev pub hitW36 : name36.Name → Hit
-hitW36 (name36.the-variants.Socket k) = hit (socketRow k)
-hitW36 name36.the-variants.SocketDataAvailable = hit w36.UESODA
-hitW36 name36.the-variants.WifiLinkUp = hit w36.UEWLU
-hitW36 name36.the-variants.WifiLinkDown = hit w36.UEWLD
-hitW36 (name36.the-variants.Station k) = hit (stationRow k)
-hitW36 (name36.the-variants.Bare k) = hit (bareRow k)
-hitW36 name36.the-variants.Unknown = miss
+-- the letters of a row, and none where there is no row
+abbrev pub lettersIn : Hit → List ℕ
+lettersIn (hit r) = lettersOf r
+lettersIn miss = []
+
+-- the event that was read, by the table's row and its fields; a number that no row has is no event
+abbrev pub withFields : Hit → List Field → Outcome
+withFields (hit r) fs = event r (valuesOf (rowKinds r) 0 fs)
+withFields miss fs = refusal 16
+
+abbrev pub eventBy : List Row → Taken → Outcome
+eventBy rows t = withFields (rowNo rows (t .row)) (t .fields)
+
+abbrev pub orStopped : Outcome → stop.Stop → Outcome
+orStopped o stop.the-variants.Nowhere = o
+orStopped o (stop.the-variants.Refused e) = refusal (refusalNo e)
+
+abbrev pub outcomeBy : List Row → Taken → Outcome
+outcomeBy rows t = orStopped (eventBy rows t) (t .stop)
+
+-- parts with at most three values
+abbrev pub threeParts : ℕ → ℕ → value.Value → value.Value → value.Value → Parts
+threeParts i n a b c =
+    record {
+      row = i;
+      count = n;
+      a = a;
+      b = b;
+      c = c;
+      d = value.the-variants.Number 0;
+      e = value.the-variants.Number 0;
+      f = value.the-variants.Number 0;
+      g = value.the-variants.Number 0;
+    }

@@ -1,119 +1,170 @@
-// The fields of an event, taken from a walk one after the other: each is first there, then of its form.
+// The fields of an event, taken from a walk one after the other by the letters of their kinds: each is first there, then of its form. `b` is a
+// number of 8 bits, `w` of 16, `i` the type of an address, `p` a protocol, `r` a reason, and any other letter a text.
 use crate::AtPacketError;
-use crate::Text;
+use crate::table::Kinds;
 use text::bytes::part;
+use text::bytes::same;
 use text::field::Fields;
 use text::field::Next;
 use text::number::Number8;
 use text::number::Number16;
+use text::number::read8;
+use text::number::read16;
 use text::walk::field_at;
 ghost use mathlib.Core.Path.{_≡_};
-ghost use mathlib.Core.List.{[], _∷_};
+ghost use Prim.Native.Nat.{ℕ, _≤_};
+ghost use lib.ListN.{length};
 ghost use Rattle.text.specs.Field.{left};
-ghost use Rattle.at.specs.Event.{takeKind, takeKinds, bits, text as textKind};
-ghost use Rattle.at.specs.Steps.{takenByte, takenWord, takenText, readPair, readTextAndWord, readLink};
+ghost use Rattle.at.specs.Event.{readField, takeKinds, bits, ipType, protocol, reason};
+ghost use Rattle.at.specs.Steps.{kindOf, kindsOf, Held, noField, oneOf, Took};
 
-pub(crate) enum ByteField {
-    Got(u8, Fields),
+// A field that was taken: a number, or the place and the length of a text.
+pub(crate) struct Field {
+    pub value: usize,
+    pub len: usize,
+}
+
+enum FieldAnswer {
+    Got(Field),
     Refused(AtPacketError),
 }
 
-pub(crate) enum WordField {
-    Got(u16, Fields),
-    Refused(AtPacketError),
-}
-
-pub(crate) enum TextField {
-    Got(Text, Fields),
-    Refused(AtPacketError),
-}
-
-// A number of 8 bits.
-pub(crate) fn byte_field(s: &[u8], w: Fields) -> ByteField
-    ensures { λ r. ⌜ takenByte (now (s .entry)) r ≡ takeKind (bits 8) (left (now (s .entry)) w) ⌝ }
+fn number(value: usize) -> FieldAnswer
+    ensures { λ r. ⌜ r ≡ FieldAnswer.Got (record { value = value; len = 0 }) ⌝ }
 {
-    let Next::Field { start, len, rest } = field_at(s, w.at) else {
-        return ByteField::Refused(AtPacketError::TypeDecodeParameterMissing);
-    };
-    let Number8::Value(n) = text::number::read8(part(s, start, len)) else {
-        return ByteField::Refused(AtPacketError::TypeDecodeParameterDataTypeInvalid);
-    };
-    ByteField::Got(n, rest)
+    FieldAnswer::Got(Field { value, len: 0 })
 }
 
-// A number of 16 bits.
-pub(crate) fn word_field(s: &[u8], w: Fields) -> WordField
-    ensures { λ r. ⌜ takenWord (now (s .entry)) r ≡ takeKind (bits 16) (left (now (s .entry)) w) ⌝ }
+fn byte_field(field: &[u8]) -> FieldAnswer
+    ensures { λ r. ⌜ ((p : ℕ) → oneOf (bits 8) r ≡ readField (bits 8) p (now (field .entry))) ⌝ }
 {
-    let Next::Field { start, len, rest } = field_at(s, w.at) else {
-        return WordField::Refused(AtPacketError::TypeDecodeParameterMissing);
-    };
-    let Number16::Value(n) = text::number::read16(part(s, start, len)) else {
-        return WordField::Refused(AtPacketError::TypeDecodeParameterDataTypeInvalid);
-    };
-    WordField::Got(n, rest)
-}
-
-// A text as it stands.
-pub(crate) fn text_field(s: &[u8], w: Fields) -> TextField
-    ensures { λ r. ⌜ takenText (now (s .entry)) r ≡ takeKind textKind (left (now (s .entry)) w) ⌝ }
-{
-    let Next::Field { start, len, rest } = field_at(s, w.at) else {
-        return TextField::Refused(AtPacketError::TypeDecodeParameterMissing);
-    };
-    TextField::Got(Text { start, len }, rest)
-}
-
-// Two numbers of 16 bits.
-pub(crate) enum Pair {
-    Got(u16, u16, Fields),
-    Refused(AtPacketError),
-}
-
-pub(crate) fn pair_of(s: &[u8], w: Fields) -> Pair
-    ensures { λ r. ⌜ readPair (now (s .entry)) r ≡ takeKinds (bits 16 ∷ bits 16 ∷ []) (left (now (s .entry)) w) ⌝ }
-{
-    match word_field(s, w) {
-        WordField::Refused(e) => Pair::Refused(e),
-        WordField::Got(a, behind) => match word_field(s, behind) {
-            WordField::Refused(e) => Pair::Refused(e),
-            WordField::Got(b, rest) => Pair::Got(a, b, rest),
-        },
+    match read8(field) {
+        Number8::Value(n) => number(n as usize),
+        Number8::Refused => FieldAnswer::Refused(AtPacketError::TypeDecodeParameterDataTypeInvalid),
     }
 }
 
-// An address and a port, or a BSSID and a radio channel: a text and a number of 16 bits.
-pub(crate) enum TextAndWord {
-    Got(Text, u16, Fields),
-    Refused(AtPacketError),
-}
-
-pub(crate) fn text_and_word(s: &[u8], w: Fields) -> TextAndWord
-    ensures { λ r. ⌜ readTextAndWord (now (s .entry)) r ≡ takeKinds (textKind ∷ bits 16 ∷ []) (left (now (s .entry)) w) ⌝ }
+fn word_field(field: &[u8]) -> FieldAnswer
+    ensures { λ r. ⌜ ((p : ℕ) → oneOf (bits 16) r ≡ readField (bits 16) p (now (field .entry))) ⌝ }
 {
-    match text_field(s, w) {
-        TextField::Refused(e) => TextAndWord::Refused(e),
-        TextField::Got(t, behind) => match word_field(s, behind) {
-            WordField::Refused(e) => TextAndWord::Refused(e),
-            WordField::Got(n, rest) => TextAndWord::Got(t, n, rest),
-        },
+    match read16(field) {
+        Number16::Value(n) => number(n as usize),
+        Number16::Refused => FieldAnswer::Refused(
+            AtPacketError::TypeDecodeParameterDataTypeInvalid,
+        ),
     }
 }
 
-// A Wi-Fi link: a number of 16 bits, then a text and another such number.
-pub(crate) enum Link {
-    Got(u16, Text, u16, Fields),
+// The type of an address: exactly `2` or `3`.
+fn type_field(field: &[u8]) -> FieldAnswer
+    ensures { λ r. ⌜ ((p : ℕ) → oneOf ipType r ≡ readField ipType p (now (field .entry))) ⌝ }
+{
+    if same(field, b"2") {
+        return number(2);
+    }
+    if same(field, b"3") {
+        return number(3);
+    }
+    FieldAnswer::Refused(AtPacketError::TypeDecodeUnsupported)
+}
+
+fn protocol_field(field: &[u8]) -> FieldAnswer
+    ensures { λ r. ⌜ ((p : ℕ) → oneOf protocol r ≡ readField protocol p (now (field .entry))) ⌝ }
+{
+    let Number8::Value(n) = read8(field) else {
+        return FieldAnswer::Refused(AtPacketError::TypeDecodeParameterDataTypeInvalid);
+    };
+    match n {
+        1 => number(1),
+        2 => number(2),
+        6 => number(6),
+        _ => FieldAnswer::Refused(AtPacketError::TypeDecodeParameterDataTypeInvalid),
+    }
+}
+
+fn reason_field(field: &[u8]) -> FieldAnswer
+    ensures { λ r. ⌜ ((p : ℕ) → oneOf reason r ≡ readField reason p (now (field .entry))) ⌝ }
+{
+    let Number8::Value(n) = read8(field) else {
+        return FieldAnswer::Refused(AtPacketError::TypeDecodeParameterDataTypeInvalid);
+    };
+    match n {
+        0..=5 => number(n as usize),
+        _ => FieldAnswer::Refused(AtPacketError::TypeDecodeParameterDataTypeInvalid),
+    }
+}
+
+// A field that starts at `start`, by the letter of its kind.
+fn field_of(kind: u8, start: usize, field: &[u8]) -> FieldAnswer
+    ensures { λ r. ⌜ oneOf (kindOf kind) r ≡ readField (kindOf kind) start (now (field .entry)) ⌝ }
+{
+    match kind {
+        b'b' => byte_field(field),
+        b'w' => word_field(field),
+        b'i' => type_field(field),
+        b'p' => protocol_field(field),
+        b'r' => reason_field(field),
+        _ => FieldAnswer::Got(Field {
+            value: start,
+            len: field.len(),
+        }),
+    }
+}
+
+// Whether a row's fields were all taken, or what stopped it.
+pub(crate) enum Stop {
+    Nowhere,
     Refused(AtPacketError),
 }
 
-pub(crate) fn link_of(s: &[u8], w: Fields) -> Link
-    ensures { λ r. ⌜ readLink (now (s .entry)) r ≡ takeKinds (bits 16 ∷ textKind ∷ bits 16 ∷ []) (left (now (s .entry)) w) ⌝ }
+// The fields of a row, in their order.
+pub(crate) struct Taken {
+    pub row: usize,
+    pub fields: [Field; 7],
+    pub stop: Stop,
+}
+
+fn no_field() -> Field
+    ensures { λ r. ⌜ r ≡ noField ⌝ }
 {
-    match word_field(s, w) {
-        WordField::Refused(e) => Link::Refused(e),
-        WordField::Got(id, behind) => match text_and_word(s, behind) {
-            TextAndWord::Refused(e) => Link::Refused(e),
-            TextAndWord::Got(bssid, channel, rest) => Link::Got(id, bssid, channel, rest),
-        },
+    Field { value: 0, len: 0 }
+}
+
+fn refused(e: AtPacketError) -> Taken
+    ensures { λ r. ⌜ r .stop ≡ Stop.Refused e ⌝ }
+{
+    let fields = [no_field(); 7];
+    let stop = Stop::Refused(e);
+    Taken {
+        row: 0,
+        fields,
+        stop,
     }
+}
+
+// The fields of a row by the letters of its kinds, left to right.
+pub(crate) fn take_fields(row: usize, kinds: Kinds, s: &[u8], w: Fields) -> Taken
+    requires { ⌜ Held kinds ⌝ }
+    ensures { λ r. ⌜ Took row (kindsOf kinds) (takeKinds (kindsOf kinds) (left (now (s .entry)) w)) r ⌝ }
+{
+    let letters = kinds.letters;
+    let count = kinds.count;
+    let mut fields = [no_field(); 7];
+    let mut at = w.at;
+    let mut i = 0;
+    while i < count {
+        let Next::Field { start, len, rest } = field_at(s, at) else {
+            return refused(AtPacketError::TypeDecodeParameterMissing);
+        };
+        match field_of(letters[i], start, part(s, start, len)) {
+            FieldAnswer::Got(field) => {
+                fields[i] = field;
+            }
+            FieldAnswer::Refused(e) => return refused(e),
+        }
+        at = rest.at;
+        i += 1;
+    }
+    let stop = Stop::Nowhere;
+    Taken { row, fields, stop }
 }

@@ -2,33 +2,33 @@
 use crate::AtPacketError;
 use crate::PeerHandle;
 use crate::Text;
-use crate::field::Link;
-use crate::field::Pair;
-use crate::field::TextAndWord;
-use crate::field::TextField;
-use crate::field::WordField;
-use crate::field::link_of;
-use crate::field::pair_of;
-use crate::field::text_and_word;
-use crate::field::text_field;
-use crate::field::word_field;
+use crate::field::Field;
+use crate::field::Stop;
+use crate::field::Taken;
+use crate::field::take_fields;
 use crate::line::Framed;
 use crate::line::frame_line;
 use crate::line::head_of;
+use crate::parts::Parts;
+use crate::parts::Value::Number;
+use crate::parts::Value::Place;
+use crate::parts::bare;
+use crate::parts::one;
+use crate::parts::three;
+use crate::parts::two;
+use crate::table::Named;
+use crate::table::kinds_of;
+use crate::table::row_of;
 use text::bytes::part;
-use text::bytes::same;
-use text::field::Fields;
-use text::field::Next;
-use text::number::Number8;
-use text::walk::field_at;
 ghost use mathlib.Core.Path.{_≡_};
-ghost use mathlib.Core.List.{[], _∷_};
-ghost use lib.ListN.{drop};
-ghost use Rattle.text.specs.Field.{left};
-ghost use Rattle.at.specs.Event.{event, num, upTo, takeKind, takeKinds, readRow, bits, ipType, protocol as protocolKind, reason as reasonKind};
-ghost use Rattle.at.specs.Line.{readLine, readText, search, readHit};
-ghost use Rattle.at.specs.W26.{table, w26, eventOf, shown, UUDPC, UUWLD, UUWAPSTAC};
-ghost use Rattle.at.specs.Steps.{takenType, takenProtocol, takenReason, readConnection, toldW26, numberedRow, hitW26};
+ghost use Prim.Native.Nat.{_<_};
+ghost use lib.ListN.{length, drop};
+ghost use Rattle.at.specs.Event.{kindsOf, event, upTo};
+ghost use Rattle.at.specs.Line.{readLine, readText};
+ghost use Rattle.at.specs.W26.{table, UUDPC, w26, eventOf, profileNo, reasonNo, typeNo, shown};
+ghost use Rattle.at.specs.Table.{spelled};
+ghost use Rattle.at.specs.Parts.{Apart};
+ghost use Rattle.at.specs.Steps.{profileOf, reasonOf, valuesOf, eventBy};
 
 pub enum WifiLinkDisconnectedReason {
     Unknown,
@@ -100,291 +100,246 @@ pub enum EventAnswer {
     Refused(AtPacketError),
 }
 
-// What a name and its fields say, before the event's end is looked at.
-enum Told {
-    Event(ATEvent),
-    Refused(AtPacketError),
-}
-
-// The events whose one field is a number of 16 bits.
-enum Numbered {
-    PeerDisconnected,
-    WifiAccessPointUp,
-    WifiAccessPointDown,
-    StationDisconnected,
-    NetworkUp,
-    NetworkDown,
-}
-
-enum Name {
-    PeerConnected,
-    Numbered(Numbered),
-    WifiLinkConnected,
-    WifiLinkDisconnected,
-    StationConnected,
-    EthernetLinkUp,
-    EthernetLinkDown,
-    NetworkError,
-    Unknown,
-}
-
-fn name_of(n: &[u8]) -> Name
-    ensures { λ r. ⌜ hitW26 r ≡ search table (now (n .entry)) ⌝ }
+fn profile_of(n: usize) -> PeerConnectedProfile
+    ensures { λ r. ⌜ r ≡ profileOf n ⌝ }
 {
-    if same(n, b"+UUDPC") {
-        return Name::PeerConnected;
-    }
-    if same(n, b"+UUDPD") {
-        return Name::Numbered(Numbered::PeerDisconnected);
-    }
-    if same(n, b"+UUWLE") {
-        return Name::WifiLinkConnected;
-    }
-    if same(n, b"+UUWLD") {
-        return Name::WifiLinkDisconnected;
-    }
-    if same(n, b"+UUWAPU") {
-        return Name::Numbered(Numbered::WifiAccessPointUp);
-    }
-    if same(n, b"+UUWAPD") {
-        return Name::Numbered(Numbered::WifiAccessPointDown);
-    }
-    if same(n, b"+UUWAPSTAC") {
-        return Name::StationConnected;
-    }
-    if same(n, b"+UUWAPSTAD") {
-        return Name::Numbered(Numbered::StationDisconnected);
-    }
-    if same(n, b"+UUETHLU") {
-        return Name::EthernetLinkUp;
-    }
-    if same(n, b"+UUETHLD") {
-        return Name::EthernetLinkDown;
-    }
-    if same(n, b"+UUNU") {
-        return Name::Numbered(Numbered::NetworkUp);
-    }
-    if same(n, b"+UUND") {
-        return Name::Numbered(Numbered::NetworkDown);
-    }
-    if same(n, b"UUNERR") {
-        return Name::NetworkError;
-    }
-    Name::Unknown
-}
-
-enum TypeField {
-    Got(bool, Fields),
-    Refused(AtPacketError),
-}
-
-// The type of an address: exactly `2` or `3`.
-fn type_field(s: &[u8], w: Fields) -> TypeField
-    ensures { λ r. ⌜ takenType (now (s .entry)) r ≡ takeKind ipType (left (now (s .entry)) w) ⌝ }
-{
-    let Next::Field { start, len, rest } = field_at(s, w.at) else {
-        return TypeField::Refused(AtPacketError::TypeDecodeParameterMissing);
-    };
-    let t = part(s, start, len);
-    if same(t, b"2") {
-        return TypeField::Got(false, rest);
-    }
-    if same(t, b"3") {
-        return TypeField::Got(true, rest);
-    }
-    TypeField::Refused(AtPacketError::TypeDecodeUnsupported)
-}
-
-enum ProtocolField {
-    Got(PeerConnectedProfile, Fields),
-    Refused(AtPacketError),
-}
-
-fn protocol_field(s: &[u8], w: Fields) -> ProtocolField
-    ensures { λ r. ⌜ takenProtocol (now (s .entry)) r ≡ takeKind protocolKind (left (now (s .entry)) w) ⌝ }
-{
-    let Next::Field { start, len, rest } = field_at(s, w.at) else {
-        return ProtocolField::Refused(AtPacketError::TypeDecodeParameterMissing);
-    };
-    let Number8::Value(n) = text::number::read8(part(s, start, len)) else {
-        return ProtocolField::Refused(AtPacketError::TypeDecodeParameterDataTypeInvalid);
-    };
     match n {
-        1 => ProtocolField::Got(PeerConnectedProfile::TCP, rest),
-        2 => ProtocolField::Got(PeerConnectedProfile::UDP, rest),
-        6 => ProtocolField::Got(PeerConnectedProfile::MQTT, rest),
-        _ => ProtocolField::Refused(AtPacketError::TypeDecodeParameterDataTypeInvalid),
+        1 => PeerConnectedProfile::TCP,
+        2 => PeerConnectedProfile::UDP,
+        _ => PeerConnectedProfile::MQTT,
     }
 }
 
-enum ReasonField {
-    Got(WifiLinkDisconnectedReason, Fields),
-    Refused(AtPacketError),
-}
-
-fn reason_field(s: &[u8], w: Fields) -> ReasonField
-    ensures { λ r. ⌜ takenReason (now (s .entry)) r ≡ takeKind reasonKind (left (now (s .entry)) w) ⌝ }
+fn reason_of(n: usize) -> WifiLinkDisconnectedReason
+    ensures { λ r. ⌜ r ≡ reasonOf n ⌝ }
 {
-    let Next::Field { start, len, rest } = field_at(s, w.at) else {
-        return ReasonField::Refused(AtPacketError::TypeDecodeParameterMissing);
-    };
-    let Number8::Value(n) = text::number::read8(part(s, start, len)) else {
-        return ReasonField::Refused(AtPacketError::TypeDecodeParameterDataTypeInvalid);
-    };
     match n {
-        0 => ReasonField::Got(WifiLinkDisconnectedReason::Unknown, rest),
-        1 => ReasonField::Got(WifiLinkDisconnectedReason::RemoteClose, rest),
-        2 => ReasonField::Got(WifiLinkDisconnectedReason::OutOfRange, rest),
-        3 => ReasonField::Got(WifiLinkDisconnectedReason::Roaming, rest),
-        4 => ReasonField::Got(WifiLinkDisconnectedReason::SecurityProblems, rest),
-        5 => ReasonField::Got(WifiLinkDisconnectedReason::NetworkDisabled, rest),
-        _ => ReasonField::Refused(AtPacketError::TypeDecodeParameterDataTypeInvalid),
+        0 => WifiLinkDisconnectedReason::Unknown,
+        1 => WifiLinkDisconnectedReason::RemoteClose,
+        2 => WifiLinkDisconnectedReason::OutOfRange,
+        3 => WifiLinkDisconnectedReason::Roaming,
+        4 => WifiLinkDisconnectedReason::SecurityProblems,
+        _ => WifiLinkDisconnectedReason::NetworkDisabled,
     }
 }
 
-// The first three fields of +UUDPC.
-enum Connection {
-    Got(u16, bool, PeerConnectedProfile, Fields),
-    Refused(AtPacketError),
+// The rows of the table, in its order.
+const UUDPC: usize = 0;
+
+const UUDPD: usize = 1;
+
+const UUWLE: usize = 2;
+
+const UUWLD: usize = 3;
+
+const UUWAPU: usize = 4;
+
+const UUWAPD: usize = 5;
+
+const UUWAPSTAC: usize = 6;
+
+const UUWAPSTAD: usize = 7;
+
+const UUETHLU: usize = 8;
+
+const UUETHLD: usize = 9;
+
+const UUNU: usize = 10;
+
+const UUND: usize = 11;
+
+const UUNERR: usize = 12;
+
+// The same rows in bytes (table.rt).
+pub fn rows() -> [u8; 260]
+    ensures { λ r. ⌜ r ≡ spelled table ⌝ }
+{
+    *b"\x06\x07+UUDPC     wipswsw\
+        \x06\x01+UUDPD     w      \
+        \x06\x03+UUWLE     wsw    \
+        \x06\x02+UUWLD     wr     \
+        \x07\x01+UUWAPU    w      \
+        \x07\x01+UUWAPD    w      \
+        \x0a\x02+UUWAPSTAC ws     \
+        \x0a\x01+UUWAPSTAD w      \
+        \x08\x00+UUETHLU          \
+        \x08\x00+UUETHLD          \
+        \x05\x01+UUNU      w      \
+        \x05\x01+UUND      w      \
+        \x06\x02UUNERR     ww     "
 }
 
-fn connection_of(s: &[u8], w: Fields) -> Connection
-    ensures { λ r. ⌜ readConnection (now (s .entry)) r ≡ takeKinds (bits 16 ∷ ipType ∷ protocolKind ∷ []) (left (now (s .entry)) w) ⌝ }
+fn peer_connected(fields: [Field; 7]) -> ATEvent
+    ensures { λ r. ⌜ eventOf r ≡ event UUDPC (valuesOf (kindsOf UUDPC) 0 fields) ⌝ }
 {
-    match word_field(s, w) {
-        WordField::Refused(e) => Connection::Refused(e),
-        WordField::Got(handle, second) => match type_field(s, second) {
-            TypeField::Refused(e) => Connection::Refused(e),
-            TypeField::Got(is_ipv6, third) => match protocol_field(s, third) {
-                ProtocolField::Refused(e) => Connection::Refused(e),
-                ProtocolField::Got(protocol, rest) => Connection::Got(
-                    handle,
-                    is_ipv6,
-                    protocol,
-                    rest,
-                ),
-            },
+    let handle = fields[0];
+    let address = fields[1];
+    let protocol = fields[2];
+    let local = fields[3];
+    let local_port = fields[4];
+    let remote = fields[5];
+    let remote_port = fields[6];
+    ATEvent::PeerConnectedIP {
+        peer_handle: PeerHandle((handle.value % 65536) as u16),
+        is_ipv6: address.value == 3,
+        protocol: profile_of(protocol.value),
+        local_address: Text {
+            start: local.value,
+            len: local.len,
         },
+        local_port: (local_port.value % 65536) as u16,
+        remote_address: Text {
+            start: remote.value,
+            len: remote.len,
+        },
+        remote_port: (remote_port.value % 65536) as u16,
     }
 }
 
-fn peer_connected(s: &[u8], w: Fields) -> Told
-    ensures { λ r. ⌜ toldW26 r ≡ readRow UUDPC (left (now (s .entry)) w) ⌝ }
+// The event of a row, from the fields that were taken for it. No row has the number of the last arm.
+fn event_of(t: Taken) -> ATEvent
+    ensures { λ r. ⌜ (t .row < length table → eventOf r ≡ eventBy table t) ⌝ }
 {
-    match connection_of(s, w) {
-        Connection::Refused(e) => Told::Refused(e),
-        Connection::Got(handle, is_ipv6, protocol, local) => match text_and_word(s, local) {
-            TextAndWord::Refused(e) => Told::Refused(e),
-            TextAndWord::Got(local_address, local_port, remote) => match text_and_word(s, remote) {
-                TextAndWord::Refused(e) => Told::Refused(e),
-                TextAndWord::Got(remote_address, remote_port, _) =>
-                    Told::Event(ATEvent::PeerConnectedIP {
-                        peer_handle: PeerHandle(handle),
-                        is_ipv6,
-                        protocol,
-                        local_address,
-                        local_port,
-                        remote_address,
-                        remote_port,
-                    }),
-            },
+    let row = t.row;
+    let fields = t.fields;
+    let first = fields[0];
+    let second = fields[1];
+    let third = fields[2];
+    let id = (first.value % 65536) as u16;
+    let code = (second.value % 65536) as u16;
+    let channel = (third.value % 65536) as u16;
+    let address = Text {
+        start: second.value,
+        len: second.len,
+    };
+    match row {
+        UUDPC => peer_connected(fields),
+        UUDPD => ATEvent::PeerDisconnected {
+            peer_handle: PeerHandle(id),
         },
+        UUWLE => ATEvent::WifiLinkConnected {
+            conn_id: id,
+            bssid: address,
+            channel,
+        },
+        UUWLD => ATEvent::WifiLinkDisconnected {
+            conn_id: id,
+            reason: reason_of(second.value),
+        },
+        UUWAPU => ATEvent::WifiAccessPointUp { id },
+        UUWAPD => ATEvent::WifiAccessPointDown { id },
+        UUWAPSTAC => ATEvent::WifiAccessPointStationConnected {
+            id,
+            mac_addr: address,
+        },
+        UUWAPSTAD => ATEvent::WifiAccessPointStationDisconnected { id },
+        UUETHLU => ATEvent::EthernetLinkUp,
+        UUETHLD => ATEvent::EthernetLinkDown,
+        UUNU => ATEvent::NetworkUp { interface_id: id },
+        UUND => ATEvent::NetworkDown { interface_id: id },
+        UUNERR => ATEvent::NetworkError {
+            interface_id: id,
+            code,
+        },
+        _ => ATEvent::EthernetLinkUp,
     }
 }
 
-fn numbered_event(k: Numbered, n: u16) -> ATEvent
-    ensures { λ r. ⌜ eventOf r ≡ event (numberedRow k) (num n ∷ []) ⌝ }
+fn type_number(is_ipv6: bool) -> u16
+    ensures { λ r. ⌜ r ≡ typeNo «is_ipv6» ⌝ }
 {
-    match k {
-        Numbered::PeerDisconnected => ATEvent::PeerDisconnected {
-            peer_handle: PeerHandle(n),
-        },
-        Numbered::WifiAccessPointUp => ATEvent::WifiAccessPointUp { id: n },
-        Numbered::WifiAccessPointDown => ATEvent::WifiAccessPointDown { id: n },
-        Numbered::StationDisconnected => ATEvent::WifiAccessPointStationDisconnected { id: n },
-        Numbered::NetworkUp => ATEvent::NetworkUp { interface_id: n },
-        Numbered::NetworkDown => ATEvent::NetworkDown { interface_id: n },
+    if is_ipv6 { 3 } else { 2 }
+}
+
+fn protocol_number(p: PeerConnectedProfile) -> u16
+    ensures { λ r. ⌜ r ≡ profileNo p ⌝ }
+{
+    match p {
+        PeerConnectedProfile::TCP => 1,
+        PeerConnectedProfile::UDP => 2,
+        PeerConnectedProfile::MQTT => 6,
     }
 }
 
-fn wifi_link_disconnected(s: &[u8], w: Fields) -> Told
-    ensures { λ r. ⌜ toldW26 r ≡ readRow UUWLD (left (now (s .entry)) w) ⌝ }
+fn reason_number(r: WifiLinkDisconnectedReason) -> u16
+    ensures { λ n. ⌜ n ≡ reasonNo r ⌝ }
 {
-    match word_field(s, w) {
-        WordField::Refused(e) => Told::Refused(e),
-        WordField::Got(conn_id, behind) => match reason_field(s, behind) {
-            ReasonField::Refused(e) => Told::Refused(e),
-            ReasonField::Got(reason, _) => Told::Event(ATEvent::WifiLinkDisconnected {
-                conn_id,
-                reason,
-            }),
-        },
+    match r {
+        WifiLinkDisconnectedReason::Unknown => 0,
+        WifiLinkDisconnectedReason::RemoteClose => 1,
+        WifiLinkDisconnectedReason::OutOfRange => 2,
+        WifiLinkDisconnectedReason::Roaming => 3,
+        WifiLinkDisconnectedReason::SecurityProblems => 4,
+        WifiLinkDisconnectedReason::NetworkDisabled => 5,
     }
 }
 
-fn station_connected(s: &[u8], w: Fields) -> Told
-    ensures { λ r. ⌜ toldW26 r ≡ readRow UUWAPSTAC (left (now (s .entry)) w) ⌝ }
+// The row of an event and its values: `event_of` the other way.
+pub fn parts(e: ATEvent) -> Parts
+    ensures { λ r. ⌜ Apart table (eventOf e) r ⌝ }
 {
-    match word_field(s, w) {
-        WordField::Refused(e) => Told::Refused(e),
-        WordField::Got(id, behind) => match text_field(s, behind) {
-            TextField::Refused(e) => Told::Refused(e),
-            TextField::Got(mac_addr, _) => Told::Event(ATEvent::WifiAccessPointStationConnected {
-                id,
-                mac_addr,
-            }),
+    match e {
+        ATEvent::PeerConnectedIP {
+            peer_handle,
+            is_ipv6,
+            protocol,
+            local_address,
+            local_port,
+            remote_address,
+            remote_port,
+        } => Parts {
+            row: UUDPC,
+            count: 7,
+            a: Number(peer_handle.0),
+            b: Number(type_number(is_ipv6)),
+            c: Number(protocol_number(protocol)),
+            d: Place(local_address),
+            e: Number(local_port),
+            f: Place(remote_address),
+            g: Number(remote_port),
         },
+        ATEvent::PeerDisconnected { peer_handle } => one(UUDPD, Number(peer_handle.0)),
+        ATEvent::WifiLinkConnected {
+            conn_id,
+            bssid,
+            channel,
+        } => three(UUWLE, Number(conn_id), Place(bssid), Number(channel)),
+        ATEvent::WifiLinkDisconnected { conn_id, reason } => {
+            two(UUWLD, Number(conn_id), Number(reason_number(reason)))
+        }
+        ATEvent::WifiAccessPointUp { id } => one(UUWAPU, Number(id)),
+        ATEvent::WifiAccessPointDown { id } => one(UUWAPD, Number(id)),
+        ATEvent::WifiAccessPointStationConnected { id, mac_addr } => {
+            two(UUWAPSTAC, Number(id), Place(mac_addr))
+        }
+        ATEvent::WifiAccessPointStationDisconnected { id } => one(UUWAPSTAD, Number(id)),
+        ATEvent::EthernetLinkUp => bare(UUETHLU),
+        ATEvent::EthernetLinkDown => bare(UUETHLD),
+        ATEvent::NetworkUp { interface_id } => one(UUNU, Number(interface_id)),
+        ATEvent::NetworkDown { interface_id } => one(UUND, Number(interface_id)),
+        ATEvent::NetworkError { interface_id, code } => {
+            two(UUNERR, Number(interface_id), Number(code))
+        }
     }
 }
 
-// The event of a name, with the fields before a walk.
-fn fields_of(name: Name, s: &[u8], w: Fields) -> Told
-    ensures { λ r. ⌜ toldW26 r ≡ readHit (hitW26 name) (left (now (s .entry)) w) ⌝ }
+// The event of the text from `start` to the end of `s`; `past` is the place just past it.
+fn event_in(s: &[u8], start: usize, past: usize) -> EventAnswer
+    ensures { λ r. ⌜ shown r ≡ upTo past (readText table start (drop start (now (s .entry)))) ⌝ }
 {
-    match name {
-        Name::PeerConnected => peer_connected(s, w),
-        Name::Numbered(k) => match word_field(s, w) {
-            WordField::Got(n, _) => Told::Event(numbered_event(k, n)),
-            WordField::Refused(e) => Told::Refused(e),
-        },
-        Name::WifiLinkConnected => match link_of(s, w) {
-            Link::Got(conn_id, bssid, channel, _) => Told::Event(ATEvent::WifiLinkConnected {
-                conn_id,
-                bssid,
-                channel,
-            }),
-            Link::Refused(e) => Told::Refused(e),
-        },
-        Name::WifiLinkDisconnected => wifi_link_disconnected(s, w),
-        Name::StationConnected => station_connected(s, w),
-        Name::EthernetLinkUp => Told::Event(ATEvent::EthernetLinkUp),
-        Name::EthernetLinkDown => Told::Event(ATEvent::EthernetLinkDown),
-        Name::NetworkError => match pair_of(s, w) {
-            Pair::Got(interface_id, code, _) => Told::Event(ATEvent::NetworkError {
-                interface_id,
-                code,
-            }),
-            Pair::Refused(e) => Told::Refused(e),
-        },
-        Name::Unknown => Told::Refused(AtPacketError::EventUnknown),
-    }
-}
-
-// The event of the text from `start` to the end of `s`.
-fn event_in(s: &[u8], start: usize) -> Told
-    ensures { λ r. ⌜ toldW26 r ≡ readText table start (drop start (now (s .entry))) ⌝ }
-{
+    let table = rows();
     let h = head_of(s, start);
-    let name = name_of(part(s, start, h.len));
-    fields_of(name, s, h.fields)
-}
-
-fn with_end(t: Told, past: usize) -> EventAnswer
-    ensures { λ r. ⌜ shown r ≡ upTo past (toldW26 t) ⌝ }
-{
-    match t {
-        Told::Event(event) => EventAnswer::Event { event, past },
-        Told::Refused(e) => EventAnswer::Refused(e),
+    let Named::Row(row) = row_of(&table, part(s, start, h.len)) else {
+        return EventAnswer::Refused(AtPacketError::EventUnknown);
+    };
+    let taken = take_fields(row, kinds_of(&table, row), s, h.fields);
+    let stop = taken.stop;
+    match stop {
+        Stop::Nowhere => EventAnswer::Event {
+            event: event_of(taken),
+            past,
+        },
+        Stop::Refused(e) => EventAnswer::Refused(e),
     }
 }
 
@@ -393,7 +348,7 @@ pub fn read(s: &[u8], from: usize) -> EventAnswer
     ensures { λ r. ⌜ shown r ≡ readLine w26 from (drop from (now (s .entry))) ⌝ }
 {
     match frame_line(s, from) {
-        Framed::Body { start, end } => with_end(event_in(part(s, 0, end), start), s.len()),
+        Framed::Body { start, end } => event_in(part(s, 0, end), start, s.len()),
         Framed::Refused(e) => EventAnswer::Refused(e),
     }
 }

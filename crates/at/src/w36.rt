@@ -9,37 +9,39 @@ use crate::binary::address_fields;
 use crate::binary::data_at;
 use crate::binary::find_marker;
 use crate::binary::no_number;
-use crate::field::ByteField;
-use crate::field::Link;
-use crate::field::Pair;
-use crate::field::TextField;
-use crate::field::WordField;
-use crate::field::byte_field;
-use crate::field::link_of;
-use crate::field::pair_of;
-use crate::field::text_field;
-use crate::field::word_field;
+use crate::field::Stop;
+use crate::field::Taken;
+use crate::field::take_fields;
 use crate::line::Framed;
 use crate::line::first_line_end;
 use crate::line::frame_line;
 use crate::line::head_of;
+use crate::parts::Parts;
+use crate::parts::Value::Number;
+use crate::parts::Value::Place;
+use crate::parts::bare;
+use crate::parts::one;
+use crate::parts::three;
+use crate::parts::two;
+use crate::table::Named;
+use crate::table::kinds_of;
+use crate::table::row_of;
 use text::bytes::part;
-use text::bytes::same;
 use text::bytes::starts_at;
-use text::field::Fields;
 use text::find::Found;
 use text::find::first_byte;
 use text::number::Number8;
 use text::number::read8;
 ghost use mathlib.Core.Path.{_≡_};
-ghost use mathlib.Core.List.{[], _∷_};
-ghost use lib.ListN.{drop};
-ghost use Rattle.text.specs.Field.{left};
-ghost use Rattle.at.specs.Event.{event, num, at, upTo, readRow};
-ghost use Rattle.at.specs.Line.{readLine, readText, search, readHit};
+ghost use Prim.Native.Nat.{_<_};
+ghost use lib.ListN.{length, drop};
+ghost use Rattle.at.specs.Event.{upTo};
+ghost use Rattle.at.specs.Line.{readLine, readText};
 ghost use Rattle.at.specs.Binary.{readBody, tried, tryRows};
-ghost use Rattle.at.specs.W36.{table, binaryTable, w36, eventOf, shown, shownBinary, UESODA, UESODB, UESODBF};
-ghost use Rattle.at.specs.Steps.{toldW36, socketRow, stationRow, bareRow, hitW36};
+ghost use Rattle.at.specs.W36.{table, binaryTable, rows36, w36, eventOf, shown, shownBinary, UESODB, UESODBF};
+ghost use Rattle.at.specs.Table.{spelled};
+ghost use Rattle.at.specs.Parts.{Apart};
+ghost use Rattle.at.specs.Steps.{eventBy};
 
 pub enum ATEvent {
     SocketConnected {
@@ -97,190 +99,183 @@ pub enum BinaryAnswer {
     Refused(AtPacketError),
 }
 
-// What a name and its fields say, before the event's end is looked at.
-enum Told {
-    Event(ATEvent),
-    Refused(AtPacketError),
-}
+// The rows of the table, in its order: those of text, then those of binary.
+const UESOC: usize = 0;
 
-// The events whose one field is a socket.
-enum SocketName {
-    Connected,
-    Closed,
-}
+const UESOCL: usize = 1;
 
-// The events whose one field is a station's address.
-enum StationName {
-    Associated,
-    Disassociated,
-}
+const UESODA: usize = 2;
 
-// The events without fields.
-enum BareName {
-    WifiAccessPointUp,
-    WifiAccessPointDown,
-    StationNetworkUp,
-    StationNetworkDown,
-    AccessPointNetworkUp,
-    AccessPointNetworkDown,
-}
+const UEWLU: usize = 3;
 
-enum Name {
-    Socket(SocketName),
-    SocketDataAvailable,
-    WifiLinkUp,
-    WifiLinkDown,
-    Station(StationName),
-    Bare(BareName),
-    Unknown,
-}
+const UEWLD: usize = 4;
 
-fn name_of(n: &[u8]) -> Name
-    ensures { λ r. ⌜ hitW36 r ≡ search table (now (n .entry)) ⌝ }
+const UEWAPSA: usize = 5;
+
+const UEWAPSDA: usize = 6;
+
+const UEWAPU: usize = 7;
+
+const UEWAPD: usize = 8;
+
+const UEWSNU: usize = 9;
+
+const UEWSND: usize = 10;
+
+const UEWAPNU: usize = 11;
+
+const UEWAPND: usize = 12;
+
+const UESODB: usize = 13;
+
+const UESODBF: usize = 14;
+
+// The same rows in bytes (table.rt).
+pub fn rows() -> [u8; 300]
+    ensures { λ r. ⌜ r ≡ spelled rows36 ⌝ }
 {
-    if same(n, b"+UESOC") {
-        return Name::Socket(SocketName::Connected);
-    }
-    if same(n, b"+UESOCL") {
-        return Name::Socket(SocketName::Closed);
-    }
-    if same(n, b"+UESODA") {
-        return Name::SocketDataAvailable;
-    }
-    if same(n, b"+UEWLU") {
-        return Name::WifiLinkUp;
-    }
-    if same(n, b"+UEWLD") {
-        return Name::WifiLinkDown;
-    }
-    if same(n, b"+UEWAPSA") {
-        return Name::Station(StationName::Associated);
-    }
-    if same(n, b"+UEWAPSDA") {
-        return Name::Station(StationName::Disassociated);
-    }
-    if same(n, b"+UEWAPU") {
-        return Name::Bare(BareName::WifiAccessPointUp);
-    }
-    if same(n, b"+UEWAPD") {
-        return Name::Bare(BareName::WifiAccessPointDown);
-    }
-    if same(n, b"+UEWSNU") {
-        return Name::Bare(BareName::StationNetworkUp);
-    }
-    if same(n, b"+UEWSND") {
-        return Name::Bare(BareName::StationNetworkDown);
-    }
-    if same(n, b"+UEWAPNU") {
-        return Name::Bare(BareName::AccessPointNetworkUp);
-    }
-    if same(n, b"+UEWAPND") {
-        return Name::Bare(BareName::AccessPointNetworkDown);
-    }
-    Name::Unknown
+    *b"\x06\x01+UESOC     b      \
+        \x07\x01+UESOCL    b      \
+        \x07\x02+UESODA    bw     \
+        \x06\x03+UEWLU     wsw    \
+        \x06\x02+UEWLD     ww     \
+        \x08\x01+UEWAPSA   s      \
+        \x09\x01+UEWAPSDA  s      \
+        \x07\x00+UEWAPU           \
+        \x07\x00+UEWAPD           \
+        \x07\x00+UEWSNU           \
+        \x07\x00+UEWSND           \
+        \x08\x00+UEWAPNU          \
+        \x08\x00+UEWAPND          \
+        \x07\x01+UESODB    b      \
+        \x08\x03+UESODBF   bsw    "
 }
 
-fn socket_event(k: SocketName, n: u8) -> ATEvent
-    ensures { λ r. ⌜ eventOf r ≡ event (socketRow k) (num n ∷ []) ⌝ }
-{
-    match k {
-        SocketName::Connected => ATEvent::SocketConnected {
-            socket_id: SocketId(n),
-        },
-        SocketName::Closed => ATEvent::SocketClosed {
-            socket_id: SocketId(n),
-        },
-    }
-}
+// How many of these bytes are those of the rows of text.
+const TEXT: usize = 260;
 
-fn station_event(k: StationName, mac: Text) -> ATEvent
-    ensures { λ r. ⌜ eventOf r ≡ event (stationRow k) (at mac ∷ []) ⌝ }
+// The event of a row of text, from the fields that were taken for it. No such row has the number of the last arm.
+fn event_of(t: Taken) -> ATEvent
+    ensures { λ r. ⌜ (t .row < length table → eventOf r ≡ eventBy table t) ⌝ }
 {
-    match k {
-        StationName::Associated => ATEvent::WifiAccessPointStationAssociated { mac_addr: mac },
-        StationName::Disassociated => ATEvent::WifiAccessPointStationDisassociated {
-            mac_addr: mac,
+    let row = t.row;
+    let fields = t.fields;
+    let first = fields[0];
+    let second = fields[1];
+    let third = fields[2];
+    let socket_id = SocketId((first.value % 256) as u8);
+    let wlan_handle = (first.value % 65536) as u16;
+    let number = (second.value % 65536) as u16;
+    let channel = (third.value % 65536) as u16;
+    let mac_addr = Text {
+        start: first.value,
+        len: first.len,
+    };
+    let bssid = Text {
+        start: second.value,
+        len: second.len,
+    };
+    match row {
+        UESOC => ATEvent::SocketConnected { socket_id },
+        UESOCL => ATEvent::SocketClosed { socket_id },
+        UESODA => ATEvent::SocketDataAvailable {
+            socket_id,
+            length: number,
         },
-    }
-}
-
-fn bare_event(k: BareName) -> ATEvent
-    ensures { λ r. ⌜ eventOf r ≡ event (bareRow k) [] ⌝ }
-{
-    match k {
-        BareName::WifiAccessPointUp => ATEvent::WifiAccessPointUp,
-        BareName::WifiAccessPointDown => ATEvent::WifiAccessPointDown,
-        BareName::StationNetworkUp => ATEvent::StationNetworkUp,
-        BareName::StationNetworkDown => ATEvent::StationNetworkDown,
-        BareName::AccessPointNetworkUp => ATEvent::AccessPointNetworkUp,
-        BareName::AccessPointNetworkDown => ATEvent::AccessPointNetworkDown,
+        UEWLU => ATEvent::WifiLinkUp {
+            wlan_handle,
+            bssid,
+            channel,
+        },
+        UEWLD => ATEvent::WifiLinkDown {
+            wlan_handle,
+            reason: number,
+        },
+        UEWAPSA => ATEvent::WifiAccessPointStationAssociated { mac_addr },
+        UEWAPSDA => ATEvent::WifiAccessPointStationDisassociated { mac_addr },
+        UEWAPU => ATEvent::WifiAccessPointUp,
+        UEWAPD => ATEvent::WifiAccessPointDown,
+        UEWSNU => ATEvent::StationNetworkUp,
+        UEWSND => ATEvent::StationNetworkDown,
+        UEWAPNU => ATEvent::AccessPointNetworkUp,
+        UEWAPND => ATEvent::AccessPointNetworkDown,
+        _ => ATEvent::StationNetworkUp,
     }
 }
 
-fn data_available(s: &[u8], w: Fields) -> Told
-    ensures { λ r. ⌜ toldW36 r ≡ readRow UESODA (left (now (s .entry)) w) ⌝ }
+fn wide(n: u8) -> u16
+    ensures { λ r. ⌜ r ≡ n ⌝ }
 {
-    match byte_field(s, w) {
-        ByteField::Refused(e) => Told::Refused(e),
-        ByteField::Got(n, behind) => match word_field(s, behind) {
-            WordField::Refused(e) => Told::Refused(e),
-            WordField::Got(length, _) => Told::Event(ATEvent::SocketDataAvailable {
-                socket_id: SocketId(n),
-                length,
-            }),
+    n as u16
+}
+
+// The row of an event and its values, of a binary event the data last.
+pub fn parts(e: ATEvent) -> Parts
+    ensures { λ r. ⌜ Apart rows36 (eventOf e) r ⌝ }
+{
+    match e {
+        ATEvent::SocketConnected { socket_id } => one(UESOC, Number(wide(socket_id.0))),
+        ATEvent::SocketClosed { socket_id } => one(UESOCL, Number(wide(socket_id.0))),
+        ATEvent::SocketDataAvailable { socket_id, length } => {
+            two(UESODA, Number(wide(socket_id.0)), Number(length))
+        }
+        ATEvent::WifiLinkUp {
+            wlan_handle,
+            bssid,
+            channel,
+        } => three(UEWLU, Number(wlan_handle), Place(bssid), Number(channel)),
+        ATEvent::WifiLinkDown {
+            wlan_handle,
+            reason,
+        } => two(UEWLD, Number(wlan_handle), Number(reason)),
+        ATEvent::WifiAccessPointStationAssociated { mac_addr } => one(UEWAPSA, Place(mac_addr)),
+        ATEvent::WifiAccessPointStationDisassociated { mac_addr } => one(UEWAPSDA, Place(mac_addr)),
+        ATEvent::WifiAccessPointUp => bare(UEWAPU),
+        ATEvent::WifiAccessPointDown => bare(UEWAPD),
+        ATEvent::StationNetworkUp => bare(UEWSNU),
+        ATEvent::StationNetworkDown => bare(UEWSND),
+        ATEvent::AccessPointNetworkUp => bare(UEWAPNU),
+        ATEvent::AccessPointNetworkDown => bare(UEWAPND),
+        ATEvent::SocketDataBinary { socket_id, data } => {
+            two(UESODB, Number(wide(socket_id.0)), Place(data))
+        }
+        ATEvent::SocketDataBinaryFrom {
+            socket_id,
+            remote_ip,
+            remote_port,
+            data,
+        } => Parts {
+            row: UESODBF,
+            count: 4,
+            a: Number(wide(socket_id.0)),
+            b: Place(remote_ip),
+            c: Number(remote_port),
+            d: Place(data),
+            e: Number(0),
+            f: Number(0),
+            g: Number(0),
         },
     }
 }
 
-// The event of a name, with the fields before a walk.
-fn fields_of(name: Name, s: &[u8], w: Fields) -> Told
-    ensures { λ r. ⌜ toldW36 r ≡ readHit (hitW36 name) (left (now (s .entry)) w) ⌝ }
+// The event of the text from `start` to the end of `s`; `past` is the place just past it.
+fn event_in(s: &[u8], start: usize, past: usize) -> EventAnswer
+    ensures { λ r. ⌜ shown r ≡ upTo past (readText table start (drop start (now (s .entry)))) ⌝ }
 {
-    match name {
-        Name::Socket(k) => match byte_field(s, w) {
-            ByteField::Got(n, _) => Told::Event(socket_event(k, n)),
-            ByteField::Refused(e) => Told::Refused(e),
-        },
-        Name::SocketDataAvailable => data_available(s, w),
-        Name::WifiLinkUp => match link_of(s, w) {
-            Link::Got(wlan_handle, bssid, channel, _) => Told::Event(ATEvent::WifiLinkUp {
-                wlan_handle,
-                bssid,
-                channel,
-            }),
-            Link::Refused(e) => Told::Refused(e),
-        },
-        Name::WifiLinkDown => match pair_of(s, w) {
-            Pair::Got(wlan_handle, reason, _) => Told::Event(ATEvent::WifiLinkDown {
-                wlan_handle,
-                reason,
-            }),
-            Pair::Refused(e) => Told::Refused(e),
-        },
-        Name::Station(k) => match text_field(s, w) {
-            TextField::Got(mac_addr, _) => Told::Event(station_event(k, mac_addr)),
-            TextField::Refused(e) => Told::Refused(e),
-        },
-        Name::Bare(k) => Told::Event(bare_event(k)),
-        Name::Unknown => Told::Refused(AtPacketError::EventUnknown),
-    }
-}
-
-// The event of the text from `start` to the end of `s`.
-fn event_in(s: &[u8], start: usize) -> Told
-    ensures { λ r. ⌜ toldW36 r ≡ readText table start (drop start (now (s .entry))) ⌝ }
-{
+    let all = rows();
+    let table = &all[0..TEXT];
     let h = head_of(s, start);
-    let name = name_of(part(s, start, h.len));
-    fields_of(name, s, h.fields)
-}
-
-fn with_end(t: Told, past: usize) -> EventAnswer
-    ensures { λ r. ⌜ shown r ≡ upTo past (toldW36 t) ⌝ }
-{
-    match t {
-        Told::Event(event) => EventAnswer::Event { event, past },
-        Told::Refused(e) => EventAnswer::Refused(e),
+    let Named::Row(row) = row_of(table, part(s, start, h.len)) else {
+        return EventAnswer::Refused(AtPacketError::EventUnknown);
+    };
+    let taken = take_fields(row, kinds_of(table, row), s, h.fields);
+    let stop = taken.stop;
+    match stop {
+        Stop::Nowhere => EventAnswer::Event {
+            event: event_of(taken),
+            past,
+        },
+        Stop::Refused(e) => EventAnswer::Refused(e),
     }
 }
 
@@ -291,7 +286,7 @@ pub fn read(s: &[u8], from: usize) -> EventAnswer
     match frame_line(s, from) {
         Framed::Body { start, end: _ } => {
             let end = first_line_end(s, start);
-            with_end(event_in(part(s, 0, end), start), end + 2)
+            event_in(part(s, 0, end), start, end + 2)
         }
         Framed::Refused(e) => EventAnswer::Refused(e),
     }

@@ -14,12 +14,10 @@ use Rattle.text.specs.Field.{join}
 use Rattle.text.specs.Put.{placed, after}
 use Rattle.at.specs.Event.{Value, num}
 use Rattle.writer.specs.Line.{plain, contentOf, contentsOf, written, behindName}
-use Rattle.writer.specs.Steps.{Whole, valueOf, itemsOf, fieldValues, fieldTexts}
+use Rattle.writer.specs.Steps.{fieldTexts}
 use Rattle.writer.specs.Write.{writableField, writableFields}
-use Rattle.writer.specs.declared.item.Item.{Item}
-use Rattle.writer.specs.declared.plan.Plan.{Plan}
 
--- each text behind a byte: the first behind this one, the others behind a comma (44)
+-- each text after a byte: the first after this one, the others after a comma (44)
 unfoldable pub separated : ℕ → List (List ℕ) → List ℕ
 separated sep [] = []
 separated sep (f ∷ fs) = sep ∷ (f ++ separated 44 fs)
@@ -54,42 +52,40 @@ pub from-end : (fs : List (List ℕ)) (i : ℕ) → length fs ≤ i → from fs 
 unfolding from separated
 from-end fs i h = rw (drop-of-length-le fs {i = i} h)
 
--- the values of a whole plan's fields, and their texts
-module _ (p : Plan) (w : Whole p) where
-  pub values-count : length (fieldValues p) ≡ p .count
-  values-count = length-take-le (p .count) (itemsOf p) (w .few)
+-- the first n values, and their texts
+module _ (vs : List Value) (n : ℕ) (w : n ≤ length vs) where
+  pub texts-count : (src : List ℕ) → length (fieldTexts src n vs) ≡ n
+  texts-count src =
+      let cs = contentsOf src vs in
+      length-map (take n cs) written ∙ length-take-le n cs (rw (length-map vs (contentOf src)) w)
 
-  pub texts-count : (src : List ℕ) → length (fieldTexts src p) ≡ p .count
-  texts-count src = length-map (contentsOf src (fieldValues p)) written ∙ length-map (fieldValues p) (contentOf src) ∙ values-count
+  -- after the last field
+  pub values-end : (i : ℕ) → n ≤ i → drop i (take n vs) ≡ []
+  values-end i h = drop-of-length-le (take n vs) {i = i} (omega (arith, length-take-le n vs w))
 
-  -- behind the last field
-  pub values-end : (i : ℕ) → p .count ≤ i → drop i (fieldValues p) ≡ []
-  values-end i h = drop-of-length-le (fieldValues p) {i = i} (omega (arith, values-count))
+  pub fields-end : (src : List ℕ) (i : ℕ) → n ≤ i → from (fieldTexts src n vs) i ≡ []
+  fields-end src i h = from-end (fieldTexts src n vs) i (omega (arith, texts-count src))
 
-  pub fields-end : (src : List ℕ) (i : ℕ) → p .count ≤ i → from (fieldTexts src p) i ≡ []
-  fields-end src i h = from-end (fieldTexts src p) i (omega (arith, texts-count src))
-
-  module _ (i : ℕ) (h : i < p .count) (x : Item) (e : valueOf x ≡ getD (itemsOf p) i (num 0)) where
-    value-at : getD (fieldValues p) i (num 0) ≡ valueOf x
-    value-at = getD-take (p .count) (itemsOf p) i (num 0) h ∙ sym e
-
+  module _ (i : ℕ) (h : i < n) (v : Value) (e : v ≡ getD vs i (num 0)) where
     -- a turn of a loop over the fields
-    pub fields-next : (src : List ℕ) → from (fieldTexts src p) i ≡ separator i ∷ (written (contentOf src (valueOf x)) ++ from (fieldTexts src p) (i + 1))
+    pub fields-next : (src : List ℕ) → from (fieldTexts src n vs) i ≡ separator i ∷ (written (contentOf src v) ++ from (fieldTexts src n vs) (i + 1))
     fields-next src =
-        let n = from-next (fieldTexts src p) i (written (plain 0)) (rw (texts-count src) h) in
-        let t = List·getD-map written (contentsOf src (fieldValues p)) i (plain 0) in
-        let u = List·getD-map (contentOf src) (fieldValues p) i (num 0) in
-        n ∙ rw (t, u, value-at)
+        let s = from-next (fieldTexts src n vs) i (written (plain 0)) (rw (texts-count src) h) in
+        let t = List·getD-map written (take n (contentsOf src vs)) i (plain 0) in
+        let u = getD-take n (contentsOf src vs) i (plain 0) h in
+        let x = List·getD-map (contentOf src) vs i (num 0) in
+        s ∙ rw (t, u, x, ← e)
 
-    pub fields-length : (src : List ℕ) → length (from (fieldTexts src p) i) ≡ 1 + length (written (contentOf src (valueOf x))) + length (from (fieldTexts src p) (i + 1))
+    pub fields-length : (src : List ℕ) → length (from (fieldTexts src n vs) i) ≡ 1 + length (written (contentOf src v)) + length (from (fieldTexts src n vs) (i + 1))
     fields-length src =
-        let l = length-append (written (contentOf src (valueOf x))) (from (fieldTexts src p) (i + 1)) in
+        let l = length-append (written (contentOf src v)) (from (fieldTexts src n vs) (i + 1)) in
         ap length (fields-next src) ∙ omega (arith, l)
 
-    pub values-next : drop i (fieldValues p) ≡ valueOf x ∷ drop (i + 1) (fieldValues p)
-    values-next = rw (add-one i) (drop-cons (fieldValues p) i (num 0) (rw values-count h) ∙ rw value-at)
+    pub values-next : drop i (take n vs) ≡ v ∷ drop (i + 1) (take n vs)
+    values-next =
+        rw (add-one i) (drop-cons (take n vs) i (num 0) (rw (length-take-le n vs w) h) ∙ rw (getD-take n vs i (num 0) h, ← e))
 
--- a field that can be written leaves the fields behind it; one that can't settles it
+-- a field that can be written leaves the fields after it; one that can't settles it
 module _ (marked : Bool) (src : List ℕ) (v : Value) (vs : List Value) where
   pub writable-next : writableField marked src v ≡ true → writableFields marked src (v ∷ vs) ≡ writableFields marked src vs
   unfolding writableFields
@@ -103,7 +99,7 @@ pub writable-none : (marked : Bool) (src : List ℕ) → writableFields marked s
 unfolding writableFields
 writable-none marked src = refl
 
--- nothing put at a place; and a turn of a loop that puts fields: a byte, a text and what stands behind them
+-- nothing put at a place; and a turn of a loop that puts fields: a byte, a text and what stands after them
 pub after-nothing : (b : List ℕ) (k : ℕ) → k ≤ length b → after b k [] ≡ b
 unfolding after placed
 after-nothing b k h =

@@ -1,24 +1,16 @@
--- `w36::write` meets its contract: a plan of the event is written as the event is. Assumes nothing.
-use Rattle.at.specs.W36.{eventOf}
-use Rattle.writer.proofs.EventPlans.{event-done, event-whole}
+-- `w36::write` meets its contract: the event is written as its parts are. Assumes nothing.
+use Rattle.at.specs.W36.{rows36}
+use Rattle.at.specs.Table.{Tabled}
+use Rattle.at.proofs.TableTests.{roomy-w36}
 use borrow.Author.Needs.{needs}
 use Rattle.writer.proofs.w36.write.Statement.{statement}
 use Rattle.writer.proofs.w36.write.Tie as tie
 
-plan-of-requires : tie.Need-plan-of-requires
-plan-of-requires c κs = search needs
-
-write-plan-requires : tie.Need-write-plan-requires
-write-plan-requires c κs = event-whole (eventOf (c .before .before .before .before .args .e)) (c .plan-of .result) (c .plan-of .ensures)
-
-same-length : tie.Need-same-length
-same-length c = search needs
-
 returns : tie.Need-returns
 returns c =
-    let at = c .before .before .before in
-    let args = at .before .before .before .before .args in
-    event-done (eventOf (args .e)) (at .plan-of .result) (at .plan-of .ensures) (args .src .now) (c .before .before .write-plan .ensures)
+    let parts = c .before .before .before .parts .ensures in
+    let bytes : Tabled rows36 (c .before .before .before .before .before .before .rows .result) = record { spells = c .before .before .before .before .before .before .rows .ensures; rooms = roomy-w36 .1 } in
+    rw (← parts .whole) (c .before .before .write-parts .ensures rows36 bytes (parts .listed))
 
 pub write-spec : {M : Type 1} → statement M
-write-spec = tie.close (tie.spec plan-of-requires write-plan-requires same-length returns)
+write-spec = tie.close (tie.spec (λ c κs. search needs) (λ c. search needs) (λ c κs. search needs) (λ c κs. search needs) (λ c. search needs) returns)

@@ -1,0 +1,61 @@
+-- Laws of an event in parts: one value, and that the parts of an event are one thing.
+use Prim.Native.Nat.{ℕ, zero, suc, _+_}
+use mathlib.Core.Path.{_≡_, refl, sym, ap, _∙_}
+use mathlib.Core.List.{List, [], _∷_}
+use mathlib.Core.Bool.{Bool, true, cond, _&&_}
+use native.Mathlib.Omega.{arith}
+use borrow.Author.Tests.{eqb-true, eqb-false}
+use lib.Dec.{eqb}
+use Rattle.text.specs.Bytes.{same}
+use Rattle.text.proofs.Bools.{and-left, and-right}
+use Rattle.at.specs.Event.{Row, nameOf, Outcome, event}
+use Rattle.at.specs.Line.{hit}
+use Rattle.at.specs.Parts.{valueOf, valuesOf, rowNo, withRow, partOf, Apart}
+use Rattle.at.specs.declared.parts.Value.{Value}
+use Rattle.at.specs.declared.parts.Value.the-variants as value
+use Rattle.at.specs.declared.parts.Parts.{Parts}
+use Rattle.at.proofs.TableLaws.{row-listed}
+
+-- a value of the code is what it says
+pub part-of-value : (v : Value) → partOf (valueOf v) ≡ v
+part-of-value (value.Number n) = refl
+part-of-value (value.Place t) = refl
+
+-- the number of the first row that has a name; and that each row of a table is the first of its name, counted from a number on
+unfoldable pub numberOf : List Row → List ℕ → ℕ
+numberOf [] name = 0
+numberOf (r ∷ rs) name = cond (same name (nameOf r)) 0 (suc (numberOf rs name))
+
+unfoldable pub firsts : List Row → ℕ → List Row → Bool
+firsts rows i [] = true
+firsts rows i (r ∷ rs) = eqb (numberOf rows (nameOf r)) i && firsts rows (suc i) rs
+
+numbered : (rows : List Row) (k : ℕ) (rs : List Row) (i : ℕ) (r : Row) → firsts rows k rs ≡ true → rowNo rs i ≡ hit r → numberOf rows (nameOf r) ≡ k + i
+unfolding rowNo firsts
+numbered rows k [] i r t e = let z : _≡_ {A = ℕ} 0 1 = cc in absurd (eqb-false 0 1 refl z)
+numbered rows k (q ∷ rs) zero r t e =
+    let f : q ≡ r = cc in
+    let n = eqb-true (numberOf rows (nameOf q)) k (and-left (eqb (numberOf rows (nameOf q)) k) (firsts rows (suc k) rs) t) in
+    let z : k ≡ k + 0 = omega arith in
+    rw f at (n ∙ z)
+numbered rows k (q ∷ rs) (suc i) r t e =
+    numbered rows (suc k) rs i r (and-right (eqb (numberOf rows (nameOf q)) k) (firsts rows (suc k) rs) t) e ∙ omega arith
+
+-- the row and the values of parts are those of their event
+taken : (rows : List Row) (o : Outcome) (p : Parts) → Apart rows o p → (r : Row) × (rowNo rows (p .row) ≡ hit r) × (event r (valuesOf p) ≡ o)
+taken rows o p a =
+    let q = row-listed rows (p .row) (a .listed) in
+    (q .0, q .1, ap (λ h. withRow h (valuesOf p)) (sym (q .1)) ∙ a .whole)
+
+pub one-parts : (rows : List Row) → firsts rows 0 rows ≡ true → (o : Outcome) (p q : Parts) → Apart rows o p → Apart rows o q → p ≡ q
+one-parts rows t o p q a b =
+    let x = taken rows o p a in
+    let y = taken rows o q b in
+    let e : event (x .0) (valuesOf p) ≡ event (y .0) (valuesOf q) = x .2 ∙ sym (y .2) in
+    let r : x .0 ≡ y .0 = cc in
+    let v : valuesOf p ≡ valuesOf q = cc in
+    let i = numbered rows 0 rows (p .row) (x .0) t (x .1) in
+    let j = numbered rows 0 rows (q .row) (y .0) t (y .1) in
+    let n : numberOf rows (nameOf (x .0)) ≡ numberOf rows (nameOf (y .0)) = rw r in
+    let m : p .row ≡ q .row = omega (arith, i, j, n) in
+    a .tidy ∙ rw (m, v) (sym (b .tidy))

@@ -1,0 +1,8 @@
+-- `parts::three` meets its contract. Assumes nothing.
+use Rattle.at.proofs.PartsLaws.{part-of-value}
+use borrow.Author.Needs.{needs}
+use Rattle.at.proofs.parts.three.Statement.{statement}
+use Rattle.at.proofs.parts.three.Tie as tie
+
+pub three-spec : {M : Type 1} → statement M
+three-spec = tie.close (tie.spec (λ c κs. search needs) (λ c. rw (c .up-to-three .ensures, part-of-value, part-of-value, part-of-value)))

@@ -1,0 +1,62 @@
+-- An event taken apart: the number of its row in a table, and its values.
+use Prim.Native.Nat.{ℕ, zero, suc, _<_}
+use mathlib.Core.Path.{_≡_}
+use mathlib.Core.List.{List, [], _∷_}
+use lib.ListN.{length, take, getD}
+use Rattle.at.specs.Event.{Row, Value, num, place, at, Outcome, event, refusal}
+use Rattle.at.specs.Line.{Hit, hit, miss}
+use Rattle.at.specs.declared.parts.Value as value
+use Rattle.at.specs.declared.parts.Parts.{Parts}
+
+abbrev pub valueOf : value.Value → Value
+valueOf (value.the-variants.Number n) = num n
+valueOf (value.the-variants.Place t) = at t
+
+-- the first `count` of the seven
+abbrev pub valuesOf : Parts → List Value
+valuesOf p =
+    take (p .count)
+    (valueOf (p .a) ∷ valueOf (p .b) ∷ valueOf (p .c) ∷ valueOf (p .d) ∷ valueOf (p .e) ∷ valueOf (p .f) ∷ valueOf (p .g) ∷ [])
+
+-- the row with a number, counted from 0
+unfoldable pub rowNo : List Row → ℕ → Hit
+rowNo [] i = miss
+rowNo (r ∷ rs) zero = hit r
+rowNo (r ∷ rs) (suc i) = rowNo rs i
+
+-- the event of a row and its values; a number that no row has is no event
+abbrev pub withRow : Hit → List Value → Outcome
+withRow (hit r) vs = event r vs
+withRow miss vs = refusal 16
+
+-- the event that these parts are of
+abbrev pub together : List Row → Parts → Outcome
+together rows p = withRow (rowNo rows (p .row)) (valuesOf p)
+
+-- the other way: up to seven values in parts, where those that are not used are the number 0
+abbrev pub partOf : Value → value.Value
+partOf (num n) = value.the-variants.Number n
+partOf (place p n) = value.the-variants.Place (record { start = p; len = n })
+
+abbrev pub partNo : List Value → ℕ → value.Value
+partNo vs i = partOf (getD vs i (num 0))
+
+abbrev pub partsOf : ℕ → List Value → Parts
+partsOf i vs =
+    record {
+      row = i;
+      count = length vs;
+      a = partNo vs 0;
+      b = partNo vs 1;
+      c = partNo vs 2;
+      d = partNo vs 3;
+      e = partNo vs 4;
+      f = partNo vs 5;
+      g = partNo vs 6;
+    }
+
+-- an event in parts, by a table: its row is in the table, the parts together are the event, and they hold nothing else
+pub record Apart (rows : List Row) (o : Outcome) (p : Parts) : Type 0 where
+  pub listed : p .row < length rows
+  pub whole : together rows p ≡ o
+  pub tidy : p ≡ partsOf (p .row) (valuesOf p)
