@@ -43,11 +43,15 @@ fn data_frame(len: usize) -> Vec<u8> {
 fn lines() -> Vec<Row> {
     let link = b"\r\n+UEWLU:0,0012F398DD12,6\r\n".to_vec();
     let socket = b"\r\n+UESOC:1\r\n".to_vec();
+    let last_w26 = b"\r\nUUNERR:0,1\r\n".to_vec();
+    let last_w36 = b"\r\n+UEWAPND\r\n".to_vec();
     let head = b"\r\n+UESODB:2";
     let data = binary(head, head.len() + 3 + 100);
     vec![
         row("w36-uewlu", "W36 `+UEWLU`", 1.0, Kind::W36, link),
         row("w36-uesoc", "W36 `+UESOC`", 1.0, Kind::W36, socket),
+        row("w26-last", "W26 `UUNERR`, the table's last row", 1.0, Kind::W26, last_w26),
+        row("w36-last", "W36 `+UEWAPND`, the table's last row", 1.0, Kind::W36, last_w36),
         row("binary-100", "`+UESODB`, 100 data bytes", 1.0, Kind::Binary, data),
     ]
 }
