@@ -201,10 +201,11 @@ took-outcome rows row q r t e k = go (t .stop) r (k .same-row) (k .same-read)
     go (stop.Refused x) (values vs fs) h s = let z : _≡_ {A = ℕ} 0 1 = cc in absurd (eqb-false 0 1 refl z)
     go (stop.Refused x) (refused n) h s = let m : refusalNo x ≡ n = cc in rw m
 
-pub told : (rows : List Row) (row : ℕ) (k : Kinds) (fs : List Part) (t : Taken) → row < length rows → Legible rows
+-- the fields taken by the letters of a row are those that the definition reads
+pub outcome-read : (rows : List Row) (row : ℕ) (k : Kinds) (fs : List Part) (t : Taken) → row < length rows → Legible rows
     → take (k .count) (k .letters) ≡ lettersIn (rowNo rows row) → Took row (kindsOf k) (takeKinds (kindsOf k) fs) t → outcomeBy rows t ≡ readHit (rowNo rows row) fs
 unfolding readRow
-told rows row k fs t h l m took =
+outcome-read rows row k fs t h l m took =
     let q = row-listed rows row h in
     let c : kindsOf k ≡ rowKinds (q .0) = ap kindsIn (m ∙ ap lettersIn (q .1)) ∙ legible-row rows row (q .0) l (q .1) in
     took-outcome rows row (q .0) (takeKinds (rowKinds (q .0)) fs) t (q .1) (rw c at took) ∙ rw (q .1)

@@ -23,7 +23,7 @@ unfolding roomy w36.table w36.binaryTable w36.rows36 w36.UESOC w36.UESOCL w36.UE
 roomy-w36 = (refl, refl)
 
 pub legible-w36 : Legible w36.table
-unfolding kindOf w36.table w36.UESOC w36.UESOCL w36.UESODA w36.UEWLU w36.UEWLD w36.UEWAPSA w36.UEWAPSDA w36.UEWAPU w36.UEWAPD w36.UEWSNU w36.UEWSND w36.UEWAPNU w36.UEWAPND w36.UESODB w36.UESODBF
+unfolding kindOf w36.table w36.UESOC w36.UESOCL w36.UESODA w36.UEWLU w36.UEWLD w36.UEWAPSA w36.UEWAPSDA w36.UEWAPU w36.UEWAPD w36.UEWSNU w36.UEWSND w36.UEWAPNU w36.UEWAPND
 legible-w36 = refl
 
 pub text-in-front : take 260 (spelled w36.rows36) ≡ spelled w36.table

@@ -196,7 +196,7 @@ fn peer_connected(fields: [Field; 7]) -> ATEvent
     }
 }
 
-// The event of a row, from the fields that were taken for it. No row has the number of the last arm.
+// The event of a row, from the fields that were taken for it. No row comes to the last arm.
 fn event_of(t: Taken) -> ATEvent
     ensures { λ r. ⌜ (t .row < length table → eventOf r ≡ eventBy table t) ⌝ }
 {

@@ -154,7 +154,7 @@ pub fn rows() -> [u8; 300]
 // How many of these bytes are those of the rows of text.
 const TEXT: usize = 260;
 
-// The event of a row of text, from the fields that were taken for it. No such row has the number of the last arm.
+// The event of a row of text, from the fields that were taken for it. No row comes to the last arm.
 fn event_of(t: Taken) -> ATEvent
     ensures { λ r. ⌜ (t .row < length table → eventOf r ≡ eventBy table t) ⌝ }
 {

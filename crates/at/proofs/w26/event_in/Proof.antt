@@ -8,7 +8,7 @@ use Rattle.at.specs.Steps.{outcomeBy, Finds}
 use Rattle.at.specs.W26.{table}
 use Rattle.at.specs.declared.table.Named.the-variants.{Row}
 use Rattle.at.proofs.LineLaws.{text-read}
-use Rattle.at.proofs.TableLaws.{told}
+use Rattle.at.proofs.TableLaws.{outcome-read}
 use Rattle.at.proofs.TableTests.{roomy-w26, legible-w26}
 use borrow.Author.Needs.{needs}
 use Rattle.at.proofs.w26.event_in.Statement.{statement}
@@ -25,7 +25,7 @@ read : (c : tie.After-take-fields) → let start = c .before .before .before .be
 read c =
     let k = c .before .before .before in
     let head = k .before .before .before .before .before .before .head-of .ensures in
-    told table _ (c .before .kinds-of .result) _ _ (found k .0) legible-w26 (c .before .kinds-of .ensures .1 table (bytes (k .before .before .before .before .before .before .before))) (c .take-fields .ensures)
+    outcome-read table _ (c .before .kinds-of .result) _ _ (found k .0) legible-w26 (c .before .kinds-of .ensures .1 table (bytes (k .before .before .before .before .before .before .before))) (c .take-fields .ensures)
     ∙ text-read table _ _ _ _ _ (k .before .before .before .before .part .ensures ∙ head .0) (sym (found k .1)) (head .1)
 
 unknown : tie.Need-returns
