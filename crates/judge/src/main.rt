@@ -1,17 +1,66 @@
 // Judges the first 4,100 bytes of standard input as one EDM frame, and prints what it is as one line.
 use libc::STDIN_FILENO;
 use libc::STDOUT_FILENO;
+use render::word::word;
+use text::bytes::part;
+ghost use Prim.Native.Nat.{_≤_};
+ghost use mathlib.Core.Path.{_≡_};
+ghost use lib.ListN.{length, take};
+ghost use Rattle.judge.specs.Judgement.{judgement};
 
-fn judge(line: &mut [u8], frame: &[u8]) {
+// Puts the line at the start of `line`, and answers its length. Each byte of the frame is two digits at most, and the rest of a line, with its
+// line end, is at most 151 bytes (`frame-room`).
+fn judge(line: &mut [u8], input: &[u8]) -> usize
+    requires { ⌜ 8351 ≤ length (now line) ⌝ }
+    ensures { λ r. ⌜ take r (now (line .exit)) ≡ judgement (now (input .entry)) ⌝ }
+{
+    let frame = part(input, 0, 4100);
     let end = render::frame::answer(line, 0, frame, edm::frame::read(frame));
-    let all = render::word::word(line, end, b"\n");
-    io::write_all(STDOUT_FILENO, text::bytes::part(line, 0, all));
+    word(line, end, b"\n")
+}
+
+// How many bytes there are, and whether the system failed to read more.
+struct Got {
+    count: usize,
+    failed: bool,
+}
+
+// Reads until `input` is full or ends.
+fn read_full(input: &mut [u8]) -> Got
+    ensures { λ r. ⌜ r .count ≤ length (now (input .exit)) ⌝ }
+{
+    let mut count = 0;
+    while count < input.len() {
+        let room = &mut input[count..];
+        let got = libc::read(STDIN_FILENO, room);
+        if got < 0 {
+            return Got {
+                count,
+                failed: true,
+            };
+        }
+        let more = io::count(got, room);
+        if more == 0 {
+            break;
+        }
+        count += more;
+    }
+    Got {
+        count,
+        failed: false,
+    }
 }
 
 fn main() {
-    let mut frame = [0u8; 4100];
-    let n = io::read_full(STDIN_FILENO, &mut frame);
-    // Each byte of the frame is two digits at most, and the names take less than 200.
+    let mut input = [0u8; 4100];
+    let got = read_full(&mut input);
+    if got.failed {
+        os::fail(b"judge: cannot read standard input");
+        return;
+    }
     let mut line = [0u8; 8400];
-    judge(&mut line, &frame[..n]);
+    let n = judge(&mut line, part(&input, 0, got.count));
+    if !io::write_all(STDOUT_FILENO, part(&line, 0, n)) {
+        os::fail(b"judge: cannot write standard output");
+    }
 }

@@ -1,1 +1,9 @@
-pub mod Between
+pub mod Print
+pub mod Words
+pub mod Refusal
+pub mod Event
+pub mod Response
+pub mod Frame
+pub mod Walk
+pub mod Written
+pub mod Steps

@@ -1,7 +1,10 @@
-// Answers as lines of text: the names of the Rust, then the fields in its order, split by single spaces. Each function puts its text at a
-// place of a lent buffer and answers the place behind it. A word for which there is no room is left out, and the place stays.
+// Answers as lines of text: the names of the Rust, then the fields in its order, split by single spaces. Each function prints at a place of a
+// lent buffer, as many bytes as fit, and answers the place just past them.
+mod event;
+mod field;
 pub mod frame;
-pub mod hex;
+mod hex;
+mod name;
 pub mod refusal;
 pub mod response;
 pub mod w26;

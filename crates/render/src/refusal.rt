@@ -1,84 +1,115 @@
 // Refusals by their names.
+use crate::name::name;
 use crate::word::word;
 use at::AtPacketError;
 use edm::EdmPacketError;
 use writer::EventWriteError;
-ghost use Rattle.render.specs.Between.{Between};
+ghost use mathlib.Core.Path.{_≡_};
+ghost use Rattle.at.specs.Refusal as events;
+ghost use Rattle.edm.specs.Refusal as frames;
+ghost use Rattle.writer.specs.Write as writing;
+ghost use Rattle.render.specs.Print.{Prints};
+ghost use Rattle.render.specs.Words.{nameIn};
+ghost use Rattle.render.specs.Refusal.{refusals, refusedLine, frameRefusedLine};
 
-fn at_name(buf: &mut [u8], at: usize, e: AtPacketError) -> usize
-    ensures { λ r. ⌜ Between (now (buf .entry)) at r (now (buf .exit)) ⌝ }
+fn refusal_name(buf: &mut [u8], at: usize, n: usize) -> usize
+    ensures { λ r. ⌜ Prints (now (buf .entry)) at (nameIn refusals n) r (now (buf .exit)) ⌝ }
+{
+    let names = b"\x01\x1aPacketDecodeFramingInvalid\
+        \x02\x23PacketDecodeTargetMemorySizeInvalid\
+        \x03\x1ePacketTypeDecodeLengthMismatch\
+        \x04\x12PayloadTypeUnknown\
+        \x05\x17ConnectEventUnsupported\
+        \x06\x17ConnectEventDecodeError\
+        \x07\x1aDisconnectEventDecodeError\
+        \x08\x19AtRequestEventDecodeError\
+        \x09\x17PacketEncodeTypeUnknown\
+        \x0a\x1ePacketEncodePayloadSizeInvalid\
+        \x0b\x10Utf8DecodeFailed\
+        \x0c\x13FramingDecodeFailed\
+        \x0d\x15TypeDecodeUnsupported\
+        \x0e\x1aTypeDecodeParameterMissing\
+        \x0f\x22TypeDecodeParameterDataTypeInvalid\
+        \x10\x0cEventUnknown\
+        \x11\x10FieldNotWritable\
+        \x12\x13EventBufferTooSmall";
+    name(buf, at, names, n)
+}
+
+fn refused(buf: &mut [u8], at: usize, n: usize) -> usize
+    ensures { λ r. ⌜ Prints (now (buf .entry)) at (refusedLine n) r (now (buf .exit)) ⌝ }
+{
+    let next = word(buf, at, b"refused ");
+    refusal_name(buf, next, n)
+}
+
+fn at_number(e: AtPacketError) -> usize
+    ensures { λ r. ⌜ r ≡ events.refusalNo e ⌝ }
 {
     match e {
-        AtPacketError::Utf8DecodeFailed => word(buf, at, b"Utf8DecodeFailed"),
-        AtPacketError::FramingDecodeFailed => word(buf, at, b"FramingDecodeFailed"),
-        AtPacketError::TypeDecodeUnsupported => word(buf, at, b"TypeDecodeUnsupported"),
-        AtPacketError::TypeDecodeParameterMissing => word(buf, at, b"TypeDecodeParameterMissing"),
-        AtPacketError::TypeDecodeParameterDataTypeInvalid => word(
-            buf,
-            at,
-            b"TypeDecodeParameterDataTypeInvalid",
-        ),
-        AtPacketError::EventUnknown => word(buf, at, b"EventUnknown"),
+        AtPacketError::Utf8DecodeFailed => 11,
+        AtPacketError::FramingDecodeFailed => 12,
+        AtPacketError::TypeDecodeUnsupported => 13,
+        AtPacketError::TypeDecodeParameterMissing => 14,
+        AtPacketError::TypeDecodeParameterDataTypeInvalid => 15,
+        AtPacketError::EventUnknown => 16,
     }
 }
 
-fn wrapped_name(buf: &mut [u8], at: usize, e: AtPacketError) -> usize
-    ensures { λ r. ⌜ Between (now (buf .entry)) at r (now (buf .exit)) ⌝ }
-{
-    let next = word(buf, at, b"AtPacketError ");
-    at_name(buf, next, e)
-}
-
-fn edm_name(buf: &mut [u8], at: usize, e: EdmPacketError) -> usize
-    ensures { λ r. ⌜ Between (now (buf .entry)) at r (now (buf .exit)) ⌝ }
+fn write_number(e: EventWriteError) -> usize
+    ensures { λ r. ⌜ r ≡ writing.refusalNo e ⌝ }
 {
     match e {
-        EdmPacketError::PacketDecodeFramingInvalid => word(buf, at, b"PacketDecodeFramingInvalid"),
-        EdmPacketError::PacketDecodeTargetMemorySizeInvalid => word(
-            buf,
-            at,
-            b"PacketDecodeTargetMemorySizeInvalid",
-        ),
-        EdmPacketError::PacketTypeDecodeLengthMismatch => word(
-            buf,
-            at,
-            b"PacketTypeDecodeLengthMismatch",
-        ),
-        EdmPacketError::PayloadTypeUnknown => word(buf, at, b"PayloadTypeUnknown"),
-        EdmPacketError::ConnectEventUnsupported => word(buf, at, b"ConnectEventUnsupported"),
-        EdmPacketError::ConnectEventDecodeError => word(buf, at, b"ConnectEventDecodeError"),
-        EdmPacketError::DisconnectEventDecodeError => word(buf, at, b"DisconnectEventDecodeError"),
-        EdmPacketError::AtRequestEventDecodeError => word(buf, at, b"AtRequestEventDecodeError"),
-        EdmPacketError::PacketEncodeTypeUnknown => word(buf, at, b"PacketEncodeTypeUnknown"),
-        EdmPacketError::PacketEncodePayloadSizeInvalid => word(
-            buf,
-            at,
-            b"PacketEncodePayloadSizeInvalid",
-        ),
-        EdmPacketError::AtPacketError(inner) => wrapped_name(buf, at, inner),
+        EventWriteError::FieldNotWritable => 17,
+        EventWriteError::EventBufferTooSmall => 18,
     }
+}
+
+fn frame_number(e: EdmPacketError) -> usize
+    ensures { λ r. ⌜ r ≡ frames.refusalNo e ⌝ }
+{
+    match e {
+        EdmPacketError::PacketDecodeFramingInvalid => 1,
+        EdmPacketError::PacketDecodeTargetMemorySizeInvalid => 2,
+        EdmPacketError::PacketTypeDecodeLengthMismatch => 3,
+        EdmPacketError::PayloadTypeUnknown => 4,
+        EdmPacketError::ConnectEventUnsupported => 5,
+        EdmPacketError::ConnectEventDecodeError => 6,
+        EdmPacketError::DisconnectEventDecodeError => 7,
+        EdmPacketError::AtRequestEventDecodeError => 8,
+        EdmPacketError::PacketEncodeTypeUnknown => 9,
+        EdmPacketError::PacketEncodePayloadSizeInvalid => 10,
+        EdmPacketError::AtPacketError(inner) => at_number(inner),
+    }
+}
+
+// A refusal of a frame: one of the AT layer is wrapped.
+fn frame_refused(buf: &mut [u8], at: usize, n: usize) -> usize
+    ensures { λ r. ⌜ Prints (now (buf .entry)) at (frameRefusedLine n) r (now (buf .exit)) ⌝ }
+{
+    if 10 < n {
+        let next = word(buf, at, b"refused AtPacketError ");
+        refusal_name(buf, next, n)
+    } else {
+        refused(buf, at, n)
+    }
+}
+
+pub(crate) fn of_frame(buf: &mut [u8], at: usize, e: EdmPacketError) -> usize
+    ensures { λ r. ⌜ Prints (now (buf .entry)) at (frameRefusedLine (frames.refusalNo e)) r (now (buf .exit)) ⌝ }
+{
+    frame_refused(buf, at, frame_number(e))
 }
 
 // The refusal of an AT reader that was called by itself.
 pub fn of_at(buf: &mut [u8], at: usize, e: AtPacketError) -> usize
-    ensures { λ r. ⌜ Between (now (buf .entry)) at r (now (buf .exit)) ⌝ }
+    ensures { λ r. ⌜ Prints (now (buf .entry)) at (refusedLine (events.refusalNo e)) r (now (buf .exit)) ⌝ }
 {
-    let next = word(buf, at, b"refused ");
-    at_name(buf, next, e)
+    refused(buf, at, at_number(e))
 }
 
-pub fn of_frame(buf: &mut [u8], at: usize, e: EdmPacketError) -> usize
-    ensures { λ r. ⌜ Between (now (buf .entry)) at r (now (buf .exit)) ⌝ }
+pub(crate) fn of_event_write(buf: &mut [u8], at: usize, e: EventWriteError) -> usize
+    ensures { λ r. ⌜ Prints (now (buf .entry)) at (refusedLine (writing.refusalNo e)) r (now (buf .exit)) ⌝ }
 {
-    let next = word(buf, at, b"refused ");
-    edm_name(buf, next, e)
-}
-
-pub fn of_event_write(buf: &mut [u8], at: usize, e: EventWriteError) -> usize
-    ensures { λ r. ⌜ Between (now (buf .entry)) at r (now (buf .exit)) ⌝ }
-{
-    match e {
-        EventWriteError::FieldNotWritable => word(buf, at, b"refused FieldNotWritable"),
-        EventWriteError::EventBufferTooSmall => word(buf, at, b"refused EventBufferTooSmall"),
-    }
+    refused(buf, at, write_number(e))
 }

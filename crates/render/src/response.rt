@@ -1,31 +1,25 @@
 // AT responses.
-use crate::hex::text_after;
+use crate::field::named_text;
 use crate::refusal::of_at;
 use crate::word::word;
-use at::Text;
 use at::response::ATResponse;
 use at::response::ResponseAnswer;
-ghost use Rattle.render.specs.Between.{Between};
+ghost use Rattle.at.specs.Response.{responseOf, shown};
+ghost use Rattle.render.specs.Print.{Prints};
+ghost use Rattle.render.specs.Response.{responseLine};
 
-fn named(buf: &mut [u8], at: usize, src: &[u8], name: &[u8], t: Text) -> usize
-    ensures { λ r. ⌜ Between (now (buf .entry)) at r (now (buf .exit)) ⌝ }
+pub(crate) fn response(buf: &mut [u8], at: usize, src: &[u8], a: ATResponse) -> usize
+    ensures { λ r. ⌜ Prints (now (buf .entry)) at (responseLine (now (src .entry)) (responseOf a)) r (now (buf .exit)) ⌝ }
 {
-    let next = word(buf, at, name);
-    text_after(buf, next, src, t)
-}
-
-pub fn response(buf: &mut [u8], at: usize, src: &[u8], r: ATResponse) -> usize
-    ensures { λ r. ⌜ Between (now (buf .entry)) at r (now (buf .exit)) ⌝ }
-{
-    match r {
-        ATResponse::Ok(t) => named(buf, at, src, b"Ok", t),
+    match a {
+        ATResponse::Ok(t) => named_text(buf, at, src, b"Ok", t),
         ATResponse::Error => word(buf, at, b"Error"),
-        ATResponse::Other(t) => named(buf, at, src, b"Other", t),
+        ATResponse::Other(t) => named_text(buf, at, src, b"Other", t),
     }
 }
 
 pub fn answer(buf: &mut [u8], at: usize, src: &[u8], a: ResponseAnswer) -> usize
-    ensures { λ r. ⌜ Between (now (buf .entry)) at r (now (buf .exit)) ⌝ }
+    ensures { λ r. ⌜ Prints (now (buf .entry)) at (responseLine (now (src .entry)) (shown a)) r (now (buf .exit)) ⌝ }
 {
     match a {
         ResponseAnswer::Response(r) => response(buf, at, src, r),

@@ -13,18 +13,28 @@ use at::w36::EventAnswer as Event36;
 use edm::Channel;
 use edm::EdmPacket;
 use render::refusal::of_at;
-use render::word::count;
+use render::word::number;
 use render::word::word;
 use text::bytes::part;
+use text::bytes::starts_at;
+ghost use Prim.Native.Nat.{ℕ, _*_, _≤_};
+ghost use mathlib.Core.Path.{_≡_};
+ghost use mathlib.Core.Bool.{_||_};
+ghost use lib.Dec.{eqb};
+ghost use lib.ListN.{length};
+ghost use Rattle.text.specs.Bytes.{every};
+ghost use Rattle.at.specs.Event.{upTo};
+ghost use Rattle.at.specs.Line.{readLine};
+ghost use Rattle.at.specs.W26.{w26};
+ghost use Rattle.at.specs.W36.{w36, eventOf};
+ghost use Rattle.at.specs.Walk.{readEither};
+ghost use Rattle.render.specs.Print.{Prints};
+ghost use Rattle.replay.specs.Hex.{bytesIn};
+ghost use Rattle.replay.specs.Reply.{readReply, packetReply, againReply, writeReply, sizedReply, what as whatLine, ofBytes, isNote, shortReply};
 
-// The place behind the answer, or why there is none.
-enum Said {
-    To(usize),
-    What,
-    TooLong,
-}
-
-fn read(output: &mut [u8], place: usize, src: &[u8], reader: Reader) -> usize {
+fn read(output: &mut [u8], place: usize, src: &[u8], reader: Reader) -> usize
+    ensures { λ r. ⌜ Prints (now (output .entry)) place (readReply reader (now (src .entry))) r (now (output .exit)) ⌝ }
+{
     match reader {
         Reader::Frame => render::frame::answer(output, place, src, edm::frame::read(src)),
         Reader::W26 => render::w26::answer(output, place, src, at::w26::read(src, 0)),
@@ -45,7 +55,9 @@ fn read(output: &mut [u8], place: usize, src: &[u8], reader: Reader) -> usize {
     }
 }
 
-fn again26(output: &mut [u8], place: usize, target: &mut [u8], src: &[u8]) -> usize {
+fn again26(output: &mut [u8], place: usize, target: &mut [u8], src: &[u8]) -> usize
+    ensures { λ r. ⌜ Prints (now (output .entry)) place (againReply (length (now (target .entry))) (now (src .entry)) (readLine w26 0 (now (src .entry)))) r (now (output .exit)) ⌝ }
+{
     match at::w26::read(src, 0) {
         Event26::Event { event: e, past: _ } => {
             let a = writer::w26::write(target, src, e);
@@ -61,19 +73,25 @@ fn write36(
     target: &mut [u8],
     src: &[u8],
     e: at::w36::ATEvent,
-) -> usize {
+) -> usize
+    ensures { λ r. ⌜ ((past : ℕ) → Prints (now (output .entry)) place (againReply (length (now (target .entry))) (now (src .entry)) (upTo past (eventOf e))) r (now (output .exit))) ⌝ }
+{
     let a = writer::w36::write(target, src, e);
     render::written::event(output, place, target, a)
 }
 
-fn again36_text(output: &mut [u8], place: usize, target: &mut [u8], src: &[u8]) -> usize {
+fn again36_text(output: &mut [u8], place: usize, target: &mut [u8], src: &[u8]) -> usize
+    ensures { λ r. ⌜ Prints (now (output .entry)) place (againReply (length (now (target .entry))) (now (src .entry)) (readLine w36 0 (now (src .entry)))) r (now (output .exit)) ⌝ }
+{
     match at::w36::read(src, 0) {
         Event36::Event { event: e, past: _ } => write36(output, place, target, src, e),
         Event36::Refused(e) => of_at(output, place, e),
     }
 }
 
-fn again36(output: &mut [u8], place: usize, target: &mut [u8], src: &[u8]) -> usize {
+fn again36(output: &mut [u8], place: usize, target: &mut [u8], src: &[u8]) -> usize
+    ensures { λ r. ⌜ Prints (now (output .entry)) place (againReply (length (now (target .entry))) (now (src .entry)) (readEither 0 (now (src .entry)))) r (now (output .exit)) ⌝ }
+{
     match at::w36::try_parse_binary(src, 0) {
         BinaryAnswer::Event { event: e, past: _ } => write36(output, place, target, src, e),
         BinaryAnswer::NotBinary => again36_text(output, place, target, src),
@@ -81,29 +99,30 @@ fn again36(output: &mut [u8], place: usize, target: &mut [u8], src: &[u8]) -> us
     }
 }
 
-fn command(output: &mut [u8], place: usize, target: &mut [u8], src: &[u8], p: EdmPacket) -> usize {
+fn command(output: &mut [u8], place: usize, target: &mut [u8], src: &[u8], p: EdmPacket) -> usize
+    ensures { λ r. ⌜ Prints (now (output .entry)) place (packetReply (length (now (target .entry))) (now (src .entry)) p) r (now (output .exit)) ⌝ }
+{
     let a = edm::command::write(target, src, p);
     render::written::frame(output, place, target, a)
 }
 
-fn whole(src: &[u8]) -> Text {
-    Text {
+// `target` is the buffer of the size that the line asks for.
+fn write(output: &mut [u8], place: usize, target: &mut [u8], src: &[u8], w: Writer) -> usize
+    ensures { λ r. ⌜ Prints (now (output .entry)) place (writeReply w (length (now (target .entry))) (now (src .entry))) r (now (output .exit)) ⌝ }
+{
+    let all = Text {
         start: 0,
         len: src.len(),
-    }
-}
-
-// `target` is the buffer of the size that the line asks for.
-fn write(output: &mut [u8], place: usize, target: &mut [u8], src: &[u8], w: Writer) -> usize {
+    };
     match w {
         Writer::Data(channel) => {
             let p = EdmPacket::DataCommand {
                 channel: Channel(channel),
-                data: whole(src),
+                data: all,
             };
             command(output, place, target, src, p)
         }
-        Writer::Request => command(output, place, target, src, EdmPacket::ATRequest(whole(src))),
+        Writer::Request => command(output, place, target, src, EdmPacket::ATRequest(all)),
         Writer::Resend => command(output, place, target, src, EdmPacket::ResendConnectEvents),
         Writer::Again26 => again26(output, place, target, src),
         Writer::Again36 => again36(output, place, target, src),
@@ -117,51 +136,64 @@ fn write_within(
     size: usize,
     src: &[u8],
     w: Writer,
-) -> Said {
+) -> usize
+    ensures { λ r. ⌜ Prints (now (output .entry)) place (sizedReply (length (now (target .entry))) w size (now (src .entry))) r (now (output .exit)) ⌝ }
+{
     if size <= target.len() {
-        Said::To(write(output, place, &mut target[0..size], src, w))
+        write(output, place, &mut target[0..size], src, w)
     } else {
-        Said::TooLong
+        word(output, place, b"too long")
     }
 }
 
-fn asked(
+// The line with this number is no question.
+fn what(output: &mut [u8], place: usize, n: u64) -> usize
+    ensures { λ r. ⌜ Prints (now (output .entry)) place (whatLine n) r (now (output .exit)) ⌝ }
+{
+    let next = word(output, place, b"what? ");
+    number(output, next, n)
+}
+
+fn read_hex(
     output: &mut [u8],
     place: usize,
-    line: &[u8],
     bytes: &mut [u8],
-    target: &mut [u8],
-) -> Said {
-    match question_of(line) {
-        Question::Read { reader, from } => match hex(bytes, part(line, from, line.len())) {
-            Decoded::Bytes(n) => Said::To(read(output, place, part(bytes, 0, n), reader)),
-            Decoded::Refused => Said::What,
-        },
-        Question::Write { writer, size, from } => match hex(bytes, part(line, from, line.len())) {
-            Decoded::Bytes(n) => write_within(
-                output,
-                place,
-                target,
-                size,
-                part(bytes, 0, n),
-                writer,
-            ),
-            Decoded::Refused => Said::What,
-        },
-        Question::Resend { size } => write_within(
-            output,
-            place,
-            target,
-            size,
-            part(bytes, 0, 0),
-            Writer::Resend,
-        ),
-        Question::Nothing => Said::What,
+    s: &[u8],
+    n: u64,
+    reader: Reader,
+) -> usize
+    requires { ⌜ length (now s) ≤ 2 * length (now bytes) ⌝ }
+    ensures { λ r. ⌜ Prints (now (output .entry)) place (ofBytes n (bytesIn (now (s .entry))) (readReply reader)) r (now (output .exit)) ⌝ }
+{
+    match hex(bytes, s) {
+        Decoded::Bytes(k) => read(output, place, part(bytes, 0, k), reader),
+        Decoded::Refused => what(output, place, n),
     }
 }
 
-// A blank line holds nothing but spaces and tabs.
-fn is_blank(line: &[u8]) -> bool {
+fn write_hex(
+    output: &mut [u8],
+    place: usize,
+    bytes: &mut [u8],
+    target: &mut [u8],
+    s: &[u8],
+    n: u64,
+    size: usize,
+    w: Writer,
+) -> usize
+    requires { ⌜ length (now s) ≤ 2 * length (now bytes) ⌝ }
+    ensures { λ r. ⌜ Prints (now (output .entry)) place (ofBytes n (bytesIn (now (s .entry))) (sizedReply (length (now (target .entry))) w size)) r (now (output .exit)) ⌝ }
+{
+    match hex(bytes, s) {
+        Decoded::Bytes(k) => write_within(output, place, target, size, part(bytes, 0, k), w),
+        Decoded::Refused => what(output, place, n),
+    }
+}
+
+// Whether the line holds nothing but spaces and tabs.
+fn is_blank(line: &[u8]) -> bool
+    ensures { λ r. ⌜ r ≡ every (λ b. eqb b 32 || eqb b 9) (now (line .entry)) ⌝ }
+{
     let mut i = 0;
     while i < line.len() {
         match line[i] {
@@ -174,37 +206,58 @@ fn is_blank(line: &[u8]) -> bool {
 }
 
 // Whether the line is passed on as it is.
-fn is_note(line: &[u8]) -> bool {
-    if line.len() == 0 {
-        return true;
-    }
-    if line[0] == b'#' {
+fn is_note(line: &[u8]) -> bool
+    ensures { λ r. ⌜ r ≡ isNote (now (line .entry)) ⌝ }
+{
+    if starts_at(line, 0, b"#") {
         return true;
     }
     is_blank(line)
 }
 
-pub fn answer(
+// The answer to the line with the number `n`.
+pub(crate) fn answer(
     output: &mut [u8],
     place: usize,
     line: &[u8],
-    number: u64,
+    n: u64,
     bytes: &mut [u8],
     target: &mut [u8],
-) -> usize {
+) -> usize
+    requires { ⌜ (length (now line) ≤ 2 * length (now bytes)) × (length (now target) ≡ 131072) ⌝ }
+    ensures { λ r. ⌜ Prints (now (output .entry)) place (shortReply n (now (line .entry))) r (now (output .exit)) ⌝ }
+{
     if is_note(line) {
         return word(output, place, line);
     }
-    match asked(output, place, line, bytes, target) {
-        Said::To(next) => next,
-        Said::What => {
-            let next = word(output, place, b"what? ");
-            count(output, next, number)
-        }
-        Said::TooLong => too_long(output, place),
+    let all = line.len();
+    match question_of(line) {
+        Question::Read { reader, from } => read_hex(
+            output,
+            place,
+            bytes,
+            part(line, from, all),
+            n,
+            reader,
+        ),
+        Question::Write { writer, size, from } => write_hex(
+            output,
+            place,
+            bytes,
+            target,
+            part(line, from, all),
+            n,
+            size,
+            writer,
+        ),
+        Question::Resend { size } => write_within(
+            output,
+            place,
+            target,
+            size,
+            part(line, 0, 0),
+            Writer::Resend,
+        ),
+        Question::Nothing => what(output, place, n),
     }
-}
-
-pub fn too_long(output: &mut [u8], place: usize) -> usize {
-    word(output, place, b"too long")
 }

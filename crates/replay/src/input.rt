@@ -5,26 +5,33 @@ use text::find::first_byte;
 ghost use Prim.Native.Nat.{_≤_, _<_};
 ghost use lib.ListN.{length};
 
-fn read_some(room: &mut [u8]) -> usize
-    ensures { λ r. ⌜ r ≤ length (now (room .exit)) ⌝ }
-{
-    let got = libc::read(STDIN_FILENO, room);
-    io::count(got, room)
+// How many bytes there are, and whether the system failed to read more.
+pub(crate) struct Got {
+    pub count: usize,
+    pub failed: bool,
 }
 
-// Reads once, behind the bytes that are kept, and answers how many bytes there are then.
-pub fn read_behind(input: &mut [u8], kept: usize) -> usize
-    ensures { λ r. ⌜ r ≤ length (now (input .exit)) ⌝ }
+// Reads once, after the bytes that are kept.
+pub(crate) fn read_after(input: &mut [u8], kept: usize) -> Got
+    ensures { λ r. ⌜ r .count ≤ length (now (input .exit)) ⌝ }
 {
     if kept <= input.len() {
-        kept + read_some(&mut input[kept..])
+        let room = &mut input[kept..];
+        let got = libc::read(STDIN_FILENO, room);
+        Got {
+            count: kept + io::count(got, room),
+            failed: got < 0,
+        }
     } else {
-        input.len()
+        Got {
+            count: input.len(),
+            failed: false,
+        }
     }
 }
 
 // The place of the first line end at `from` or after it, or the length of `s`.
-pub fn line_end(s: &[u8], from: usize) -> usize
+pub(crate) fn line_end(s: &[u8], from: usize) -> usize
     ensures { λ r. ⌜ (r < length (now (s .entry)) → from ≤ r) ⌝ }
 {
     match first_byte(s, from, b'\n') {
@@ -34,7 +41,7 @@ pub fn line_end(s: &[u8], from: usize) -> usize
 }
 
 // Moves the bytes from `start` up to `end` to the front, and answers how many they are.
-pub fn move_to_front(input: &mut [u8], start: usize, end: usize) -> usize
+pub(crate) fn move_to_front(input: &mut [u8], start: usize, end: usize) -> usize
     requires { ⌜ end ≤ length (now input) ⌝ }
 {
     if start == 0 {

@@ -8,12 +8,24 @@ mod session;
 mod walk;
 
 use crate::session::Session;
-use crate::session::finish;
+use crate::session::lines;
 use crate::session::turn;
+use crate::session::write_out;
+use text::bytes::part;
+ghost use Rattle.replay.specs.Buffers.{Buffers};
 
 // A proved loop has to end, and nothing says that the input does. So the loop counts its turns down, from a number that no run uses up.
-fn run(input: &mut [u8], output: &mut [u8], bytes: &mut [u8], target: &mut [u8]) {
-    let mut s = Session::new();
+fn run(input: &mut [u8], output: &mut [u8], bytes: &mut [u8], target: &mut [u8])
+    requires { ⌜ Buffers (now output) (now bytes) (now target) ⌝ }
+{
+    let mut s = Session {
+        kept: 0,
+        is_too_long: false,
+        number: 1,
+        place: 0,
+        is_reading: true,
+        is_writing: true,
+    };
     let mut turns = u64::MAX;
     while 0 < turns {
         if !s.is_reading || !s.is_writing {
@@ -22,10 +34,20 @@ fn run(input: &mut [u8], output: &mut [u8], bytes: &mut [u8], target: &mut [u8])
         s = turn(input, output, bytes, target, s);
         turns -= 1;
     }
-    finish(input, output, bytes, target, s);
+    // The last line may have no line end.
+    let kept = s.kept;
+    if kept < input.len() {
+        if s.is_too_long || 0 < kept {
+            input[kept] = b'\n';
+            let rest = lines(part(input, 0, kept + 1), output, bytes, target, s);
+            write_out(output, rest.session);
+            return;
+        }
+    }
+    write_out(output, s);
 }
 
-// The input holds a longest line and what is read behind it, the output an answer to a longest line and those before it. The bytes that a
+// The input holds a longest line and what is read after it, the output an answer to a longest line and those before it. The bytes that a
 // line spells are half as many as its digits, and a written frame or event has no more than the largest SIZE.
 fn main() {
     let mut input = [0u8; 524288];

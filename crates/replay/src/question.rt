@@ -5,8 +5,11 @@ use text::bytes::part;
 use text::bytes::same;
 use text::find::Found;
 use text::find::first_byte;
+ghost use mathlib.Core.Path.{_≡_};
+ghost use lib.ListN.{drop};
+ghost use Rattle.replay.specs.Question.{words, kindOf, numberIn, numberThen, sizedOf, withSize, withSizeAndChannel, withSizeAlone, asked, askedOf};
 
-pub enum Reader {
+pub(crate) enum Reader {
     Frame,
     W26,
     W36,
@@ -15,7 +18,7 @@ pub enum Reader {
     Response,
 }
 
-pub enum Writer {
+pub(crate) enum Writer {
     Data(u8),
     Request,
     Resend,
@@ -24,7 +27,7 @@ pub enum Writer {
 }
 
 // The bytes are spelt from the place `from` on to the end of the line; a resend has none.
-pub enum Question {
+pub(crate) enum Question {
     Read {
         reader: Reader,
         from: usize,
@@ -48,7 +51,9 @@ enum Kind {
     Unknown,
 }
 
-fn kind_of(name: &[u8]) -> Kind {
+fn kind_of(name: &[u8]) -> Kind
+    ensures { λ r. ⌜ r ≡ kindOf words (now (name .entry)) ⌝ }
+{
     if same(name, b"frame") {
         return Kind::Read(Reader::Frame);
     }
@@ -85,24 +90,28 @@ fn kind_of(name: &[u8]) -> Kind {
     Kind::Unknown
 }
 
-// A number up to the next space, and the place behind that space.
-enum Word {
+// A number up to the next space, and the place after that space.
+enum Sized {
     Number { value: usize, next: usize },
     Nothing,
 }
 
-fn number_at(line: &[u8], from: usize) -> Word {
+fn number_at(line: &[u8], from: usize) -> Sized
+    ensures { λ r. ⌜ sizedOf (now (line .entry)) r ≡ numberThen (drop from (now (line .entry))) ⌝ }
+{
     let Found::At(i) = first_byte(line, from, b' ') else {
-        return Word::Nothing;
+        return Sized::Nothing;
     };
     let Number::Value(value) = decimal(part(line, from, i - from)) else {
-        return Word::Nothing;
+        return Sized::Nothing;
     };
-    Word::Number { value, next: i + 1 }
+    Sized::Number { value, next: i + 1 }
 }
 
-fn with_size(line: &[u8], from: usize, writer: Writer) -> Question {
-    let Word::Number { value, next } = number_at(line, from) else {
+fn with_size(line: &[u8], from: usize, writer: Writer) -> Question
+    ensures { λ r. ⌜ askedOf (now (line .entry)) r ≡ withSize writer (numberThen (drop from (now (line .entry)))) ⌝ }
+{
+    let Sized::Number { value, next } = number_at(line, from) else {
         return Question::Nothing;
     };
     Question::Write {
@@ -112,15 +121,17 @@ fn with_size(line: &[u8], from: usize, writer: Writer) -> Question {
     }
 }
 
-fn with_channel(line: &[u8], from: usize) -> Question {
-    let Word::Number {
+fn with_channel(line: &[u8], from: usize) -> Question
+    ensures { λ r. ⌜ askedOf (now (line .entry)) r ≡ withSizeAndChannel (numberThen (drop from (now (line .entry)))) ⌝ }
+{
+    let Sized::Number {
         value: size,
         next: second,
     } = number_at(line, from)
     else {
         return Question::Nothing;
     };
-    let Word::Number {
+    let Sized::Number {
         value: channel,
         next: third,
     } = number_at(line, second)
@@ -137,14 +148,18 @@ fn with_channel(line: &[u8], from: usize) -> Question {
     }
 }
 
-fn with_size_alone(line: &[u8], from: usize) -> Question {
+fn with_size_alone(line: &[u8], from: usize) -> Question
+    ensures { λ r. ⌜ askedOf (now (line .entry)) r ≡ withSizeAlone (numberIn (drop from (now (line .entry)))) ⌝ }
+{
     let Number::Value(size) = decimal(part(line, from, line.len())) else {
         return Question::Nothing;
     };
     Question::Resend { size }
 }
 
-pub fn question_of(line: &[u8]) -> Question {
+pub(crate) fn question_of(line: &[u8]) -> Question
+    ensures { λ r. ⌜ askedOf (now (line .entry)) r ≡ asked (now (line .entry)) ⌝ }
+{
     let Found::At(i) = first_byte(line, 0, b' ') else {
         return Question::Nothing;
     };

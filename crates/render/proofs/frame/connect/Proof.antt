@@ -1,30 +1,11 @@
--- `connect` keeps to its place: each call puts its text behind the one before.
+-- `frame::connect` meets its contract. Assumes nothing.
+use Rattle.render.proofs.PrintLaws.{prints-then}
 use borrow.Author.Needs.{needs}
-use Rattle.render.proofs.BetweenLaws.{joined}
 use Rattle.render.proofs.frame.connect.Statement.{statement}
 use Rattle.render.proofs.frame.connect.Tie as tie
 
-slice-aggregate-of-channel : tie.Need-slice-aggregate-of-channel
-slice-aggregate-of-channel c = search needs
-
-of-channel-requires : tie.Need-of-channel-requires
-of-channel-requires c κs = search needs
-
-connect-after-requires : tie.Need-connect-after-requires
-connect-after-requires c κs = search needs
-
-same-length : tie.Need-same-length
-same-length c = search needs
-
 returns : tie.Need-returns
-returns c = joined (c .before .before .before .before .before .before .of-channel .ensures) (c .before .before .connect-after .ensures)
+returns c = prints-then (c .before .before .before .before .before .before .of-channel .ensures _) (c .before .before .connect-kind .ensures)
 
 pub connect-spec : {M : Type 1} → statement M
-connect-spec =
-    tie.close
-    (tie.spec
-    slice-aggregate-of-channel
-    of-channel-requires
-    connect-after-requires
-    same-length
-    returns)
+connect-spec = tie.close (tie.spec (λ c. search needs) (λ c κs. search needs) (λ c κs. search needs) (λ c. search needs) returns)

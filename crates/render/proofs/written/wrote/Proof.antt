@@ -1,46 +1,28 @@
--- `wrote` keeps to its place: each call puts its text behind the one before.
+-- `written::wrote` meets its contract. Assumes nothing.
+use Rattle.render.proofs.PrintLaws.{prints-then}
 use borrow.Author.Needs.{needs}
-use Rattle.render.proofs.BetweenLaws.{joined}
 use Rattle.render.proofs.written.wrote.Statement.{statement}
 use Rattle.render.proofs.written.wrote.Tie as tie
 
-slice-aggregate-word : tie.Need-slice-aggregate-word
-slice-aggregate-word c = search needs
-
-word-requires : tie.Need-word-requires
-word-requires c κs = search needs
-
-count-requires : tie.Need-count-requires
-count-requires c κs = search needs
-
-slice-aggregate-word-2 : tie.Need-slice-aggregate-word-2
-slice-aggregate-word-2 c = search needs
-
-word-requires-2 : tie.Need-word-requires-2
-word-requires-2 c κs = search needs
-
-part-requires : tie.Need-part-requires
-part-requires c κs = search needs
-
-hex-requires : tie.Need-hex-requires
-hex-requires c κs = search needs
-
-same-length : tie.Need-same-length
-same-length c = search needs
-
 returns : tie.Need-returns
-returns c = joined (c .before .before .before .before .before .before .before .before .before .before .before .before .before .before .before .before .word .ensures) (joined (c .before .before .before .before .before .before .before .before .before .before .before .before .count .ensures) (joined (c .before .before .before .before .before .before .before .word2 .ensures) (c .before .before .hex .ensures)))
+returns c =
+    let digits = c .before .before in
+    let space = digits .before .before .before .before .before in
+    let count = space .before .before .before .before .before in
+    let name = count .before .before .before .before in
+    let bytes = rw (digits .before .part .ensures) at (digits .hex .ensures) in
+    prints-then (prints-then (prints-then (name .word .ensures) (count .number .ensures)) (space .word2 .ensures)) bytes
 
 pub wrote-spec : {M : Type 1} → statement M
 wrote-spec =
     tie.close
     (tie.spec
-    slice-aggregate-word
-    word-requires
-    count-requires
-    slice-aggregate-word-2
-    word-requires-2
-    part-requires
-    hex-requires
-    same-length
+    (λ c. search needs)
+    (λ c κs. search needs)
+    (λ c κs. search needs)
+    (λ c. search needs)
+    (λ c κs. search needs)
+    (λ c κs. search needs)
+    (λ c κs. search needs)
+    (λ c. search needs)
     returns)

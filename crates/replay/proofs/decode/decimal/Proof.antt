@@ -1,45 +1,56 @@
--- `decimal` is safe and ends: a turn for each digit, and the number stays small enough for one digit more.
-use borrow.Author.Needs.{needs}
+-- `decimal` meets its contract: what the digits from `i` on make of the number so far is what all make.
 use Prim.Native.Nat.{_-_, _≤_}
-use lib.ListN.{length}
+use mathlib.Core.Path.{_≡_, sym, _∙_}
+use native.Mathlib.Omega.{arith}
+use lib.ListN.{length, drop}
+use Rattle.text.specs.Number.{digitsFrom}
+use Rattle.replay.specs.Question.{capped, numberIn}
+use Rattle.replay.proofs.QuestionLaws.{capped-start, none-empty, capped-end, capped-low, capped-high, capped-more}
 use Rattle.replay.proofs.decode.decimal.Statement.{statement}
 use Rattle.replay.proofs.decode.decimal.Tie as tie
 
 abbrev Inv-loop : tie.InvT-loop
-Inv-loop s n₀ i₀ n i = (i ≤ length s) × (n ≤ 1000000)
+Inv-loop s n₀ i₀ n i = (i ≤ length s) × (n ≤ 1000000) × (numberIn s ≡ capped (digitsFrom n (drop i s)))
 
 abbrev μ-loop : tie.MeasureT-loop
 μ-loop s n₀ i₀ n i = length s - i
 
 returns : tie.Need-returns Inv-loop μ-loop
-returns c = search needs
+returns c = sym (none-empty _ (c .if1 .taken))
 
 loop-holds : tie.Need-loop-holds Inv-loop μ-loop
-loop-holds c = search needs
+loop-holds c = (omega arith, omega arith, capped-start _ (omega arith))
 
-shared-slice-read-value : tie.Need-shared-slice-read-value Inv-loop μ-loop
-shared-slice-read-value c = search needs
-
-value-requires : tie.Need-value-requires Inv-loop μ-loop
-value-requires c κs = search needs
+shared-slice-read-b : tie.Need-shared-slice-read-b Inv-loop μ-loop
+shared-slice-read-b c = omega arith
 
 returns-2 : tie.Need-returns-2 Inv-loop μ-loop
-returns-2 c = search needs
-
-longer-requires : tie.Need-longer-requires Inv-loop μ-loop
-longer-requires c κs = search needs
-
-add-i : tie.Need-add-i Inv-loop μ-loop
-add-i c = search needs
-
-loop-less : tie.Need-loop-less Inv-loop μ-loop
-loop-less c = search needs
-
-loop-again : tie.Need-loop-again Inv-loop μ-loop
-loop-again c = search needs
+returns-2 c = let l = c .before .before .before .loop in
+    let s = c .before .before .before .before .before .before .args .s .now in
+    sym (l .inv .2 ∙ capped-low (l .n) s (l .i) (omega arith) (c .if2 .taken))
 
 returns-3 : tie.Need-returns-3 Inv-loop μ-loop
-returns-3 c = search needs
+returns-3 c = let l = c .before .before .before .before .loop in
+    let s = c .before .before .before .before .before .before .before .args .s .now in
+    sym (l .inv .2 ∙ capped-high (l .n) s (l .i) (omega arith) (c .if3 .taken))
+
+longer-requires : tie.Need-longer-requires Inv-loop μ-loop
+longer-requires c κs = omega arith
+
+add-i : tie.Need-add-i Inv-loop μ-loop
+add-i c = omega arith
+
+loop-less : tie.Need-loop-less Inv-loop μ-loop
+loop-less c = omega arith
+
+loop-again : tie.Need-loop-again Inv-loop μ-loop
+loop-again c = let l = c .before .before .before .before .before .loop in
+    let s = c .before .before .before .before .before .before .before .before .args .s .now in
+    (omega arith, omega (arith, c .longer .ensures), l .inv .2 ∙ capped-more (l .n) s (l .i) (omega arith) (omega arith) (omega arith) (c .longer .result) (c .longer .ensures))
+
+returns-4 : tie.Need-returns-4 Inv-loop μ-loop
+returns-4 c = let l = c .before .loop in
+    sym (l .inv .2 ∙ capped-end (l .n) (c .before .before .before .before .args .s .now) (l .i) (omega arith) (omega arith))
 
 pub decimal-spec : {M : Type 1} → statement M
 decimal-spec =
@@ -49,11 +60,11 @@ decimal-spec =
     μ-loop
     returns
     loop-holds
-    shared-slice-read-value
-    value-requires
+    shared-slice-read-b
     returns-2
+    returns-3
     longer-requires
     add-i
     loop-less
     loop-again
-    returns-3)
+    returns-4)

@@ -1,60 +1,47 @@
--- `number_at` is safe: a space that is found lies in the line, and not before the place that the search starts at.
+-- `number_at` meets its contract.
 use mathlib.Core.Path.{sym, _∙_}
 use native.Mathlib.Omega.{arith}
 use Rattle.text.proofs.FindLaws.{from-at}
+use Rattle.replay.specs.Question.{numberThen}
+use Rattle.replay.proofs.QuestionLaws.{space-at, space-nowhere}
 use borrow.Author.Needs.{needs}
 use Rattle.replay.proofs.question.number_at.Statement.{statement}
 use Rattle.replay.proofs.question.number_at.Tie as tie
 
-first-byte-requires : tie.Need-first-byte-requires
-first-byte-requires c κs = search needs
-
-enum-known-i : tie.Need-enum-known-i
-enum-known-i c = search needs
-
-enum-told : tie.Need-enum-told
-enum-told c = search needs
-
 returns : tie.Need-returns
-returns c = search needs
+unfolding numberThen
+returns c = rw (space-nowhere (c .before .before .before .before .args .line .now) (c .before .before .before .before .args .from) (sym (c .before .before .first-byte .ensures) ∙ c .enum-told .given .1))
 
 sub-part : tie.Need-sub-part
 sub-part c = omega (arith, from-at _ _ _ _ (sym (c .before .before .before .first-byte .ensures) ∙ c .before .i .given .1) .0)
 
-part-requires : tie.Need-part-requires
-part-requires c κs = search needs
-
-decimal-requires : tie.Need-decimal-requires
-decimal-requires c κs = search needs
-
-enum-known-value : tie.Need-enum-known-value
-enum-known-value c = search needs
-
-enum-told-2 : tie.Need-enum-told-2
-enum-told-2 c = search needs
-
 returns-2 : tie.Need-returns-2
-returns-2 c = search needs
+unfolding numberThen
+returns-2 c = let near = c .before .before .before .before .before .before in
+    rw (space-at (near .before .before .before .args .line .now) (near .before .before .before .args .from) (c .before .before .before .before .before .i .given .0 .0) (sym (near .before .first-byte .ensures) ∙ c .before .before .before .before .before .i .given .1), ← c .before .before .before .part .ensures, ← c .before .before .decimal .ensures, c .enum-told2 .given .1)
 
 add-t8 : tie.Need-add-t8
-add-t8 c = omega (arith, from-at _ _ _ _ (sym (c .before .before .before .before .before .before .before .before .first-byte .ensures) ∙ c .before .before .before .before .before .before .i .given .1) .1)
+add-t8 c = let near = c .before .before .before .before .before .before in
+    omega (arith, from-at _ _ _ _ (sym (near .before .before .first-byte .ensures) ∙ near .i .given .1) .1)
 
 returns-3 : tie.Need-returns-3
-returns-3 c = search needs
+unfolding numberThen
+returns-3 c = let near = c .before .before .before .before .before .before in
+    rw (space-at (near .before .before .before .before .args .line .now) (near .before .before .before .before .args .from) (near .i .given .0 .0) (sym (near .before .before .first-byte .ensures) ∙ near .i .given .1), ← c .before .before .before .before .part .ensures, ← c .before .before .before .decimal .ensures, c .before .value .given .1)
 
 pub number-at-spec : {M : Type 1} → statement M
 number-at-spec =
     tie.close
     (tie.spec
-    first-byte-requires
-    enum-known-i
-    enum-told
+    (λ c κs. search needs)
+    (λ c. search needs)
+    (λ c. search needs)
     returns
     sub-part
-    part-requires
-    decimal-requires
-    enum-known-value
-    enum-told-2
+    (λ c κs. search needs)
+    (λ c κs. search needs)
+    (λ c. search needs)
+    (λ c. search needs)
     returns-2
     add-t8
     returns-3)

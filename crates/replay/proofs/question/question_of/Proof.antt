@@ -1,90 +1,75 @@
--- `question_of` is safe: a space that is found lies in the line.
-use mathlib.Core.Path.{sym, _∙_}
+-- `question_of` meets its contract.
+use Prim.Native.Nat.{_-_}
+use mathlib.Core.Path.{_≡_, sym, _∙_}
 use native.Mathlib.Omega.{arith}
 use Rattle.text.proofs.FindLaws.{from-at}
+use Rattle.replay.specs.Question.{asked}
+use Rattle.replay.proofs.QuestionLaws.{space-at, space-nowhere}
 use borrow.Author.Needs.{needs}
 use Rattle.replay.proofs.question.question_of.Statement.{statement}
 use Rattle.replay.proofs.question.question_of.Tie as tie
 
-first-byte-requires : tie.Need-first-byte-requires
-first-byte-requires c κs = search needs
-
-enum-known-i : tie.Need-enum-known-i
-enum-known-i c = search needs
-
-enum-told : tie.Need-enum-told
-enum-told c = search needs
-
 returns : tie.Need-returns
-returns c = search needs
+unfolding asked
+returns c = rw (space-nowhere (c .before .before .before .before .args .line .now) 0 (sym (c .before .before .first-byte .ensures) ∙ c .enum-told .given .1))
 
 add-from : tie.Need-add-from
 add-from c = omega (arith, from-at _ _ _ _ (sym (c .before .before .before .first-byte .ensures) ∙ c .before .i .given .1) .1)
 
-part-requires : tie.Need-part-requires
-part-requires c κs = search needs
-
-kind-of-requires : tie.Need-kind-of-requires
-kind-of-requires c κs = search needs
-
-enum-known-reader : tie.Need-enum-known-reader
-enum-known-reader c = search needs
-
-enum-known-writer : tie.Need-enum-known-writer
-enum-known-writer c = search needs
-
-with-size-requires : tie.Need-with-size-requires
-with-size-requires c κs = search needs
-
-enum-told-2 : tie.Need-enum-told-2
-enum-told-2 c = search needs
-
-with-channel-requires : tie.Need-with-channel-requires
-with-channel-requires c κs = search needs
-
-enum-told-3 : tie.Need-enum-told-3
-enum-told-3 c = search needs
-
-with-size-alone-requires : tie.Need-with-size-alone-requires
-with-size-alone-requires c κs = search needs
-
-enum-told-4 : tie.Need-enum-told-4
-enum-told-4 c = search needs
-
 returns-2 : tie.Need-returns-2
-returns-2 c = search needs
+unfolding asked
+returns-2 c = let near = c .before .before .before .before .before .before in
+    let i = near .i .given in
+    let z : i .0 .0 - 0 ≡ i .0 .0 = omega arith in
+    rw (space-at (near .before .before .before .before .args .line .now) 0 (i .0 .0) (sym (near .before .before .first-byte .ensures) ∙ i .1), z, ← c .before .before .before .before .part .ensures, ← c .before .before .before .kind-of .ensures, c .before .reader .given .1)
 
 returns-3 : tie.Need-returns-3
-returns-3 c = search needs
+unfolding asked
+returns-3 c = let near = c .before .before .before .before .before .before in
+    let i = near .before .i .given in
+    let z : i .0 .0 - 0 ≡ i .0 .0 = omega arith in
+    rw (space-at (near .before .before .before .before .before .args .line .now) 0 (i .0 .0) (sym (near .before .before .before .first-byte .ensures) ∙ i .1), z, ← c .before .before .before .before .before .part .ensures, ← c .before .before .before .before .kind-of .ensures, c .before .before .writer .given .1) (c .with-size .ensures)
 
 returns-4 : tie.Need-returns-4
-returns-4 c = search needs
+unfolding asked
+returns-4 c = let near = c .before .before .before .before .before .before in
+    let i = near .i .given in
+    let z : i .0 .0 - 0 ≡ i .0 .0 = omega arith in
+    rw (space-at (near .before .before .before .before .args .line .now) 0 (i .0 .0) (sym (near .before .before .first-byte .ensures) ∙ i .1), z, ← c .before .before .before .before .part .ensures, ← c .before .before .before .kind-of .ensures, c .before .enum-told2 .given .1) (c .with-channel .ensures)
 
 returns-5 : tie.Need-returns-5
-returns-5 c = search needs
+unfolding asked
+returns-5 c = let near = c .before .before .before .before .before .before in
+    let i = near .i .given in
+    let z : i .0 .0 - 0 ≡ i .0 .0 = omega arith in
+    rw (space-at (near .before .before .before .before .args .line .now) 0 (i .0 .0) (sym (near .before .before .first-byte .ensures) ∙ i .1), z, ← c .before .before .before .before .part .ensures, ← c .before .before .before .kind-of .ensures, c .before .enum-told3 .given .1) (c .with-size-alone .ensures)
 
 returns-6 : tie.Need-returns-6
-returns-6 c = search needs
+unfolding asked
+returns-6 c = let near = c .before .before .before .before .before .before in
+    let i = c .before .before .before .before .before .i .given in
+    let z : i .0 .0 - 0 ≡ i .0 .0 = omega arith in
+    rw (space-at (near .before .before .before .args .line .now) 0 (i .0 .0) (sym (near .before .first-byte .ensures) ∙ i .1), z, ← c .before .before .before .part .ensures, ← c .before .before .kind-of .ensures, c .enum-told4 .given .1)
 
 pub question-of-spec : {M : Type 1} → statement M
 question-of-spec =
     tie.close
     (tie.spec
-    first-byte-requires
-    enum-known-i
-    enum-told
+    (λ c κs. search needs)
+    (λ c. search needs)
+    (λ c. search needs)
     returns
     add-from
-    part-requires
-    kind-of-requires
-    enum-known-reader
-    enum-known-writer
-    with-size-requires
-    enum-told-2
-    with-channel-requires
-    enum-told-3
-    with-size-alone-requires
-    enum-told-4
+    (λ c κs. search needs)
+    (λ c κs. search needs)
+    (λ c. search needs)
+    (λ c. search needs)
+    (λ c κs. search needs)
+    (λ c. search needs)
+    (λ c κs. search needs)
+    (λ c. search needs)
+    (λ c κs. search needs)
+    (λ c. search needs)
     returns-2
     returns-3
     returns-4

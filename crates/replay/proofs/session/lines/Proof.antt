@@ -1,6 +1,6 @@
--- `lines` is safe and ends: a turn for each line end, and each line starts behind the one before.
+-- `lines` is safe and ends: a turn for each line end, and each line starts after the one before.
 use Prim.Native.Nat.{_-_, _≤_, _<_}
-use mathlib.Core.Path.{_≡_}
+use mathlib.Core.Path.{_≡_, _∙_}
 use native.Mathlib.Omega.{arith}
 use lib.ListN.{length}
 use borrow.Author.Needs.{needs}
@@ -14,44 +14,27 @@ Inv-loop input output₀ bytes₀ target₀ session₀ start₀ end₀ output by
 abbrev μ-loop : tie.MeasureT-loop
 μ-loop input output₀ bytes₀ target₀ session₀ start₀ end₀ output bytes target session start end = length input - start
 
-line-end-requires : tie.Need-line-end-requires Inv-loop μ-loop
-line-end-requires c κs = search needs
-
-loop-holds : tie.Need-loop-holds Inv-loop μ-loop
-loop-holds c = search needs
-
 sub-part : tie.Need-sub-part Inv-loop μ-loop
-sub-part c = omega (arith, c .before .loop .inv .0 (c .loop-test .taken))
+sub-part c = omega (arith, c .before .before .before .before .loop .inv .0 (c .before .before .before .loop-test .taken))
 
-part-requires : tie.Need-part-requires Inv-loop μ-loop
-part-requires c κs = search needs
-
-one-line-requires : tie.Need-one-line-requires Inv-loop μ-loop
-one-line-requires c κs = search needs
-
-add-start : tie.Need-add-start Inv-loop μ-loop
-add-start c = search needs
-
-line-end-requires-2 : tie.Need-line-end-requires-2 Inv-loop μ-loop
-line-end-requires-2 c κs = search needs
+reply-requires : tie.Need-reply-requires Inv-loop μ-loop
+reply-requires c κs = let near = c .before .before .before .before .before .before in
+    let far = near .before .before .before .before .before .before in
+    let l = near .before .loop .inv in
+    let b = far .before .pre in
+    (c .before .before .before .before .with-room .ensures, (l .1 ∙ b .0, l .2 ∙ b .1, l .3 ∙ b .2))
 
 loop-less : tie.Need-loop-less Inv-loop μ-loop
-loop-less c = omega (arith, c .before .before .before .before .before .before .before .before .before .before .before .before .before .loop .inv .0 (c .before .before .before .before .before .before .before .before .before .before .before .before .loop-test .taken))
+loop-less c = let near = c .before .before .before .before .before .before in
+    let far = near .before .before .before .before .before .before in
+    omega (arith, far .before .before .before .before .loop .inv .0 (far .before .before .before .loop-test .taken))
 
 loop-again : tie.Need-loop-again Inv-loop μ-loop
-loop-again c = search needs
-
-same-length : tie.Need-same-length Inv-loop μ-loop
-same-length c = search needs
-
-same-length-2 : tie.Need-same-length-2 Inv-loop μ-loop
-same-length-2 c = search needs
-
-same-length-3 : tie.Need-same-length-3 Inv-loop μ-loop
-same-length-3 c = search needs
-
-returns : tie.Need-returns Inv-loop μ-loop
-returns c = search needs
+loop-again c = let near = c .before .before .before .before .before .before in
+    let far = near .before .before .before .before .before .before in
+    let l = far .before .before .before .before .loop .inv in
+    let r = near .before .before .reply .kept in
+    (c .line-end2 .ensures, r .0 ∙ l .1, r .1 .1 .1 .1 .1 .0 ∙ l .2, r .1 .1 .1 .1 .1 .1 .0 ∙ l .3)
 
 pub lines-spec : {M : Type 1} → statement M
 lines-spec =
@@ -59,16 +42,18 @@ lines-spec =
     (tie.spec
     Inv-loop
     μ-loop
-    line-end-requires
-    loop-holds
+    (λ c κs. search needs)
+    (λ c. search needs)
+    (λ c κs. search needs)
     sub-part
-    part-requires
-    one-line-requires
-    add-start
-    line-end-requires-2
+    (λ c κs. search needs)
+    reply-requires
+    (λ c κs. search needs)
+    (λ c. search needs)
+    (λ c κs. search needs)
     loop-less
     loop-again
-    same-length
-    same-length-2
-    same-length-3
-    returns)
+    (λ c. search needs)
+    (λ c. search needs)
+    (λ c. search needs)
+    (λ c. search needs))

@@ -1,0 +1,2 @@
+pub mod JudgementLaws
+pub mod WrongJudges

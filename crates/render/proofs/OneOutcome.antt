@@ -1,0 +1,60 @@
+-- Each public promise allows one outcome only: two outcomes that meet it at the same arguments agree in the place that is answered and in every byte
+-- of the lent buffer. The promises are the functions' own: `word.Reads.Post` is what `word` ensures. Assumes nothing.
+use Prim.Native.Nat.{ℕ}
+use mathlib.Core.Path.{_≡_, sym, _∙_}
+use mathlib.Core.List.{List}
+use Rattle.text.proofs.OneOutcome.{One}
+use Rattle.render.specs.Print.{Prints}
+use Rattle.render.proofs.word.word as word
+use Rattle.render.proofs.word.number as number
+use Rattle.render.proofs.refusal.of_at as of_at
+use Rattle.render.proofs.response.answer as response
+use Rattle.render.proofs.w26.answer as w26
+use Rattle.render.proofs.w36.answer as w36
+use Rattle.render.proofs.w36.binary_answer as binary_answer
+use Rattle.render.proofs.w36.step as step
+use Rattle.render.proofs.frame.answer as frame
+use Rattle.render.proofs.written.frame as written_frame
+use Rattle.render.proofs.written.event as written_event
+
+abbrev outcome : ℕ → List ℕ → ℕ × List ℕ
+outcome place buffer = (place, buffer)
+
+printed-once : {b d e : List ℕ} {at r q : ℕ} {ds : List ℕ} → Prints b at ds r d → Prints b at ds q e → outcome r d ≡ outcome q e
+printed-once x y =
+    let place = x .reaches ∙ sym (y .reaches) in
+    let buffer = x .leaves ∙ sym (y .leaves) in
+    rw (place, buffer)
+
+pub one-word : One 2 word.Kinds.ps word.Kinds.r word.Reads.Post (λ κs x s. outcome x (s .0 .now))
+one-word κs a x y s t p q = printed-once p q
+
+pub one-number : One 1 number.Kinds.ps number.Kinds.r number.Reads.Post (λ κs x s. outcome x (s .0 .now))
+one-number κs a x y s t p q = printed-once p q
+
+pub one-of-at : One 1 of_at.Kinds.ps of_at.Kinds.r of_at.Reads.Post (λ κs x s. outcome x (s .0 .now))
+one-of-at κs a x y s t p q = printed-once p q
+
+pub one-response : One 2 response.Kinds.ps response.Kinds.r response.Reads.Post (λ κs x s. outcome x (s .0 .now))
+one-response κs a x y s t p q = printed-once p q
+
+pub one-w26 : One 2 w26.Kinds.ps w26.Kinds.r w26.Reads.Post (λ κs x s. outcome x (s .0 .now))
+one-w26 κs a x y s t p q = printed-once p q
+
+pub one-w36 : One 2 w36.Kinds.ps w36.Kinds.r w36.Reads.Post (λ κs x s. outcome x (s .0 .now))
+one-w36 κs a x y s t p q = printed-once p q
+
+pub one-binary : One 2 binary_answer.Kinds.ps binary_answer.Kinds.r binary_answer.Reads.Post (λ κs x s. outcome x (s .0 .now))
+one-binary κs a x y s t p q = printed-once p q
+
+pub one-step : One 2 step.Kinds.ps step.Kinds.r step.Reads.Post (λ κs x s. outcome x (s .0 .now))
+one-step κs a x y s t p q = printed-once p q
+
+pub one-frame : One 2 frame.Kinds.ps frame.Kinds.r frame.Reads.Post (λ κs x s. outcome x (s .0 .now))
+one-frame κs a x y s t p q = printed-once p q
+
+pub one-written-frame : One 2 written_frame.Kinds.ps written_frame.Kinds.r written_frame.Reads.Post (λ κs x s. outcome x (s .0 .now))
+one-written-frame κs a x y s t p q = printed-once p q
+
+pub one-written-event : One 2 written_event.Kinds.ps written_event.Kinds.r written_event.Reads.Post (λ κs x s. outcome x (s .0 .now))
+one-written-event κs a x y s t p q = printed-once p q

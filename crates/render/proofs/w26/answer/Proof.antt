@@ -1,0 +1,24 @@
+-- `w26::answer` meets its contract. Assumes nothing.
+use Rattle.render.proofs.StepLaws.{line-up-to}
+use borrow.Author.Needs.{needs}
+use Rattle.render.proofs.w26.answer.Statement.{statement}
+use Rattle.render.proofs.w26.answer.Tie as tie
+
+returns : tie.Need-returns
+returns c = rw (c .before .before .before .before .before .a .given .1, line-up-to) (c .before .before .event .ensures)
+
+returns-2 : tie.Need-returns-2
+returns-2 c = rw (c .before .before .before .before .before .a2 .given .1) (c .before .before .of-at .ensures)
+
+pub answer-spec : {M : Type 1} → statement M
+answer-spec =
+    tie.close
+    (tie.spec
+    (λ c. search needs)
+    (λ c κs. search needs)
+    (λ c. search needs)
+    (λ c κs. search needs)
+    (λ c. search needs)
+    returns
+    (λ c. search needs)
+    returns-2)

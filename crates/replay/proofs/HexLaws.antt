@@ -1,0 +1,104 @@
+-- Laws of bytes in hex: which bytes are digits, and a step over a space or over the two digits of a byte.
+use Prim.Native.Nat.{ℕ, zero, suc, _+_, _*_, _-_, _≤_, _<_}
+use mathlib.Core.Path.{_≡_, refl, sym, ap, _∙_}
+use mathlib.Core.List.{List, [], _∷_, _++_, append-nil, append-assoc}
+use mathlib.Core.Bool.{Bool, true, false, cond, _&&_}
+use native.Mathlib.Numerals.{add-one}
+use native.Mathlib.Omega.{arith}
+use lib.Dec.{leb}
+use lib.ListN.{length, take, drop, getD, set, drop-of-length-le}
+use lib.Seq.{drop-cons, take-suc-set}
+use borrow.Author.Tests.{leb-true, le-leb, lt-leb, lt-ltb, le-ltb, ne-eqb}
+use Rattle.replay.specs.Hex.{digitOf, isDigit, Spelt, spells, noHex, prepend, pairs, someBytes}
+
+-- A byte within or outside a range of digits
+
+within : (lo hi b : ℕ) → lo ≤ b → b ≤ hi → leb lo b && leb b hi ≡ true
+within lo hi b p q = rw (le-leb lo b p, le-leb b hi q)
+
+outside : (lo hi b : ℕ) → (lo ≤ b → hi < b) → leb lo b && leb b hi ≡ false
+outside lo hi b h = go (leb lo b) refl
+  where
+    go : (k : Bool) → leb lo b ≡ k → k && leb b hi ≡ false
+    go true e = lt-leb b hi (h (leb-true lo b e))
+    go false e = refl
+
+module _ (b : ℕ) where
+  pub digit-decimal : 48 ≤ b → b ≤ 57 → digitOf b ≡ b - 48
+  digit-decimal p q = rw (within 48 57 b p q)
+
+  pub digit-upper : 65 ≤ b → b ≤ 70 → digitOf b ≡ b - 65 + 10
+  digit-upper p q = rw (outside 48 57 b (λ h. omega arith), within 65 70 b p q)
+
+  pub digit-lower : 97 ≤ b → b ≤ 102 → digitOf b ≡ b - 97 + 10
+  digit-lower p q = rw (outside 48 57 b (λ h. omega arith), outside 65 70 b (λ h. omega arith), within 97 102 b p q)
+
+  pub digit-none : (48 ≤ b → 57 < b) → (65 ≤ b → 70 < b) → (97 ≤ b → 102 < b) → digitOf b ≡ 16
+  digit-none p q r = rw (outside 48 57 b p, outside 65 70 b q, outside 97 102 b r)
+
+-- The text from a place on
+
+module _ (s : List ℕ) (i : ℕ) where
+  pub pairs-end : length s ≤ i → pairs (drop i s) ≡ spells []
+  unfolding pairs
+  pairs-end h = rw (drop-of-length-le s {i = i} h)
+
+  module _ (h : i < length s) where
+    pub pairs-space : getD s i 0 ≡ 32 → pairs (drop i s) ≡ pairs (drop (i + 1) s)
+    unfolding pairs
+    pairs-space e = rw (add-one i, drop-cons s i 0 h, e) (go (drop (suc i) s))
+      where
+        go : (t : List ℕ) → pairs (32 ∷ t) ≡ pairs t
+        go [] = refl
+        go (c ∷ t) = refl
+
+    -- one byte that is no space, and no byte after it
+    pub pairs-single : (getD s i 0 ≡ 32 → ⊥) → length s - i < 2 → pairs (drop i s) ≡ noHex
+    unfolding pairs
+    pairs-single n l = rw (drop-cons s i 0 h, drop-of-length-le s {i = suc i} (omega arith), ne-eqb (getD s i 0) 32 n)
+
+    module _ (n : getD s i 0 ≡ 32 → ⊥) (l : 2 ≤ length s - i) where
+      two : pairs (drop i s)
+          ≡ cond (isDigit (getD s i 0) && isDigit (getD s (i + 1) 0)) (prepend ((digitOf (getD s i 0) * 16 + digitOf (getD s (i + 1) 0)) ∷ []) (pairs (drop (i + 2) s))) noHex
+      unfolding pairs
+      two =
+          let z : i + 2 ≡ suc (suc i) = omega arith in
+          rw (z, add-one i, drop-cons s i 0 h, drop-cons s (suc i) 0 (omega arith), ne-eqb (getD s i 0) 32 n)
+
+      pub pairs-digits : digitOf (getD s i 0) ≤ 15 → digitOf (getD s (i + 1) 0) ≤ 15
+          → pairs (drop i s) ≡ prepend ((digitOf (getD s i 0) * 16 + digitOf (getD s (i + 1) 0)) ∷ []) (pairs (drop (i + 2) s))
+      pairs-digits p q = two ∙ rw (lt-ltb (digitOf (getD s i 0)) 16 (omega arith), lt-ltb (digitOf (getD s (i + 1) 0)) 16 (omega arith))
+
+      pub pairs-first : 15 < digitOf (getD s i 0) → pairs (drop i s) ≡ noHex
+      pairs-first p = two ∙ rw (le-ltb (digitOf (getD s i 0)) 16 (omega arith))
+
+      pub pairs-second : 15 < digitOf (getD s (i + 1) 0) → pairs (drop i s) ≡ noHex
+      pairs-second p = two ∙ go (isDigit (getD s i 0)) (isDigit (getD s (i + 1) 0)) (le-ltb (digitOf (getD s (i + 1) 0)) 16 (omega arith))
+        where
+          go : (a b : Bool) → b ≡ false → cond (a && b) (prepend ((digitOf (getD s i 0) * 16 + digitOf (getD s (i + 1) 0)) ∷ []) (pairs (drop (i + 2) s))) noHex ≡ noHex
+          go true true e = let z : _≡_ {A = ℕ} 0 1 = cc in absurd (omega arith)
+          go true false e = refl
+          go false b e = refl
+
+-- Bytes before what is spelt
+
+pub prepend-none : (r : Spelt) → r ≡ prepend [] r
+prepend-none (spells s) = refl
+prepend-none noHex = refl
+
+pub prepend-all : (x : List ℕ) → prepend x (spells []) ≡ spells x
+prepend-all x = ap spells (append-nil x)
+
+prepend-twice : (x y : List ℕ) (r : Spelt) → prepend x (prepend y r) ≡ prepend (x ++ y) r
+prepend-twice x y (spells z) = ap spells (sym (append-assoc x y z))
+prepend-twice x y noHex = refl
+
+-- one byte more at the start of a buffer
+pub prepend-put : (b : List ℕ) (n x : ℕ) (r : Spelt) → n < length b → prepend (take n b) (prepend (x ∷ []) r) ≡ prepend (take (n + 1) (set b n x)) r
+prepend-put b n x r h = prepend-twice (take n b) (x ∷ []) r ∙ rw (add-one n, take-suc-set b n x h)
+
+-- what spells a byte or more
+pub some-bytes : (n : ℕ) (b : List ℕ) → n ≤ length b → (n ≡ 0 → ⊥) → someBytes (spells (take n b)) ≡ spells (take n b)
+some-bytes zero b h k = absurd (k refl)
+some-bytes (suc n) [] h k = absurd (omega arith)
+some-bytes (suc n) (x ∷ b) h k = refl

@@ -1,0 +1,51 @@
+-- The promise of `reply` allows one outcome only, and shuts out a program that reports the first of two events and drops the second.
+-- `reply.Reads.Post` is what `reply` ensures.
+use Prim.Native.Nat.{ℕ, _+_}
+use mathlib.Core.Path.{_≡_, refl, sym, _∙_}
+use mathlib.Core.List.{List}
+use mathlib.Core.Bool.{false}
+use contract.Lifetimes.{Lfts}
+use denote.Triple.Clauses.{AtExit}
+use borrow.Fn.Kinds.{Dens, endedOf}
+use lib.ListN.{length}
+use Rattle.text.specs.Bytes.{bytes, same, startsWith, every}
+use Rattle.text.specs.Decimal.{digitsOf, decimal}
+use Rattle.text.specs.Find.{firstOf}
+use Rattle.text.specs.Field.{fieldsFrom}
+use Rattle.text.specs.Number.{digitsFrom, under, digits, signed, number}
+use Rattle.text.specs.Put.{placed}
+use Rattle.text.specs.Utf8.{table as table37, seqLen, passed, validUpTo, utf8, insideCharacter}
+use Rattle.text.proofs.OneOutcome.{One}
+use Rattle.at.specs.Event.{readField, takeKind, takeKinds, readRow}
+use Rattle.at.specs.Line.{before, endsIn, ended, framed, search, fieldsAfter, readText, readLine}
+use Rattle.at.specs.Binary.{tryRows}
+use Rattle.at.specs.W36.{table, binaryTable, UESOC, UESOCL, UESODA, UEWLU, UEWLD, UEWAPSA, UEWAPSDA, UEWAPU, UEWAPD, UEWSNU, UEWSND, UEWAPNU, UEWAPND, UESODB, UESODBF}
+use Rattle.at.specs.Walk.{readEither, stepAt, walkFrom, walkAt}
+use Rattle.render.specs.Words.{numberWord, valuesLine}
+use Rattle.render.specs.Event.{cases36, caseOf}
+use Rattle.render.specs.Walk.{walkLine}
+use Rattle.replay.specs.Hex.{pairs, bytesIn}
+use Rattle.replay.specs.Question.{words, kindOf, atSpace, asked}
+use Rattle.replay.specs.Reply.{isNote, withoutCr, shortReply, replyLine, lineReply, answerLine}
+use Rattle.replay.proofs.session.reply as reply
+
+-- the place that is answered, and every byte of the output
+pub one-reply : One 4 reply.Kinds.ps reply.Kinds.r reply.Reads.Post (λ κs x s. x) × One 4 reply.Kinds.ps reply.Kinds.r reply.Reads.Post (λ κs x s. s .0 .now)
+one-reply = ((λ κs a x y s t p q. p .0 ∙ sym (q .0)), λ κs a x y s t p q. p .1 ∙ sym (q .1))
+
+-- one read of two `+UESOC` lines, in hex
+abbrev pub twoConnects : List ℕ
+twoConnects = bytes "walk36 0d0a2b5545534f433a310d0a 0d0a2b5545534f433a320d0a"
+
+abbrev pub bothSockets : List ℕ
+bothSockets = bytes "SocketConnected 1 @12 ; SocketConnected 2 @24 ; end\n"
+
+both-sockets : (n : ℕ) → answerLine false n twoConnects ≡ bothSockets
+unfolding lineReply replyLine withoutCr shortReply isNote every asked atSpace firstOf words kindOf bytesIn pairs same startsWith fieldsFrom digitsFrom under digits signed number table37 seqLen passed validUpTo utf8 insideCharacter readField takeKind takeKinds readRow before endsIn ended framed search fieldsAfter readText readLine tryRows readEither stepAt walkFrom walkAt table binaryTable UESOC UESOCL UESODA UEWLU UEWLD UEWAPSA UEWAPSDA UEWAPU UEWAPD UEWSNU UEWSND UEWAPNU UEWAPND UESODB UESODBF walkLine valuesLine numberWord decimal digitsOf cases36 caseOf
+both-sockets n = refl
+
+-- both events are written, wherever the line is lent and the answer put
+pub both-reported : (κs : Lfts 4) (a : Dens κs reply.Kinds.ps) (e : AtExit (endedOf 4 reply.Kinds.ps reply.Kinds.r) κs) (r : ℕ)
+    → a .1 .1 .0 .now ≡ twoConnects → a .1 .1 .1 .1 .0 ≡ false → reply.Reads.Post κs a r e
+    → (r ≡ a .1 .0 + length bothSockets) × (e .0 .now ≡ placed (a .0 .now) (a .1 .0) bothSockets)
+both-reported κs a e r line here p = rw (line, here, both-sockets (a .1 .1 .1 .0)) at p

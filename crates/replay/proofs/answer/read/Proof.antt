@@ -1,0 +1,56 @@
+-- `read` meets its contract.
+use borrow.Author.Needs.{needs}
+use Rattle.replay.proofs.answer.read.Statement.{statement}
+use Rattle.replay.proofs.answer.read.Tie as tie
+
+returns : tie.Need-returns
+returns c = rw (c .before .before .before .before .before .enum-told .given .1, ← c .before .before .before .read .ensures) (c .before .before .answer .ensures)
+
+returns-2 : tie.Need-returns-2
+returns-2 c = rw (c .before .before .before .before .before .enum-told2 .given .1, ← c .before .before .before .read2 .ensures) (c .before .before .answer2 .ensures)
+
+returns-3 : tie.Need-returns-3
+returns-3 c = rw (c .before .before .before .before .before .enum-told3 .given .1, ← c .before .before .before .read3 .ensures) (c .before .before .answer3 .ensures)
+
+returns-4 : tie.Need-returns-4
+returns-4 c = rw (c .before .before .before .before .before .enum-told4 .given .1, ← c .before .before .before .try-parse-binary .ensures) (c .before .before .binary-answer .ensures)
+
+returns-5 : tie.Need-returns-5
+returns-5 c = rw (c .before .before .before .before .enum-told5 .given .1) (c .before .before .every-event .ensures)
+
+returns-6 : tie.Need-returns-6
+returns-6 c = rw (c .before .before .before .before .before .enum-told6 .given .1, ← c .before .before .before .read4 .ensures) (c .before .before .answer4 .ensures)
+
+pub read-spec : {M : Type 1} → statement M
+read-spec =
+    tie.close
+    (tie.spec
+    (λ c. search needs)
+    (λ c κs. search needs)
+    (λ c κs. search needs)
+    (λ c. search needs)
+    (λ c κs. search needs)
+    (λ c κs. search needs)
+    (λ c. search needs)
+    (λ c κs. search needs)
+    (λ c κs. search needs)
+    (λ c. search needs)
+    (λ c κs. search needs)
+    (λ c κs. search needs)
+    (λ c. search needs)
+    (λ c κs. search needs)
+    (λ c. search needs)
+    (λ c κs. search needs)
+    (λ c κs. search needs)
+    (λ c. search needs)
+    returns
+    (λ c. search needs)
+    returns-2
+    (λ c. search needs)
+    returns-3
+    (λ c. search needs)
+    returns-4
+    (λ c. search needs)
+    returns-5
+    (λ c. search needs)
+    returns-6)

@@ -1,0 +1,33 @@
+-- `write_hex` meets its contract.
+use Rattle.text.specs.Bytes.{part}
+use borrow.Author.Needs.{needs}
+use Rattle.replay.proofs.answer.write_hex.Statement.{statement}
+use Rattle.replay.proofs.answer.write_hex.Tie as tie
+
+returns : tie.Need-returns
+unfolding part
+returns c = let near = c .before .before .before .before .before .before in
+    let far = near .before .before .before .before .before .before in
+    rw (← far .before .before .hex .ensures, near .before .before .before .before .k .given .1) (rw (c .before .before .before .before .before .part .ensures) at (c .before .before .before .before .write-within .ensures))
+
+returns-2 : tie.Need-returns-2
+returns-2 c = let near = c .before .before .before .before .before .before in
+    rw (← near .before .before .hex .ensures, c .before .before .before .before .enum-told .given .1) (c .before .before .what .ensures)
+
+pub write-hex-spec : {M : Type 1} → statement M
+write-hex-spec =
+    tie.close
+    (tie.spec
+    (λ c κs. search needs)
+    (λ c. search needs)
+    (λ c κs. search needs)
+    (λ c κs. search needs)
+    (λ c. search needs)
+    (λ c κs. search needs)
+    (λ c. search needs)
+    (λ c. search needs)
+    (λ c. search needs)
+    returns
+    (λ c. search needs)
+    (λ c. search needs)
+    returns-2)

@@ -1,0 +1,5 @@
+pub mod Hex
+pub mod Question
+pub mod Reply
+pub mod Buffers
+pub mod Steps

@@ -1,0 +1,133 @@
+-- What a line asks: a word, a space, and what the word takes.
+--   frame, w26, w36, binary, walk36, response   HEX
+--   request, again26, again36                   SIZE HEX
+--   data                                        SIZE CHANNEL HEX
+--   resend                                      SIZE
+use Prim.Native.Nat.{ℕ, _+_, min}
+use Prim.Native.String.{String}
+use mathlib.Core.List.{List, [], _∷_}
+use mathlib.Core.Bool.{cond}
+use lib.Dec.{leb, ltb}
+use lib.ListN.{length, take, drop}
+use Rattle.text.specs.Bytes.{bytes, same}
+use Rattle.text.specs.Find.{firstOf}
+use Rattle.text.specs.Number.{Num, some, none, digitsFrom}
+use Rattle.replay.specs.declared.decode.Number.{Number}
+use Rattle.replay.specs.declared.decode.Number.the-variants as number
+use Rattle.replay.specs.declared.question.Reader.{Reader}
+use Rattle.replay.specs.declared.question.Reader.the-variants as reader
+use Rattle.replay.specs.declared.question.Writer.{Writer}
+use Rattle.replay.specs.declared.question.Writer.the-variants as writer
+use Rattle.replay.specs.declared.question.Kind.{Kind}
+use Rattle.replay.specs.declared.question.Kind.the-variants as kind
+use Rattle.replay.specs.declared.question.Sized as code
+use Rattle.replay.specs.declared.question.Question.{Question}
+use Rattle.replay.specs.declared.question.Question.the-variants as question
+
+pub data Word : Type 0 where
+  _asks_ : String → Kind → Word
+
+infix 30 _asks_
+unfoldable pub words : List Word
+words =
+    ("frame" asks kind.Read reader.Frame)
+    ∷ ("w26" asks kind.Read reader.W26)
+    ∷ ("w36" asks kind.Read reader.W36)
+    ∷ ("binary" asks kind.Read reader.Binary)
+    ∷ ("walk36" asks kind.Read reader.Walk36)
+    ∷ ("response" asks kind.Read reader.Response)
+    ∷ ("data" asks kind.Data)
+    ∷ ("request" asks kind.Write writer.Request)
+    ∷ ("resend" asks kind.Resend)
+    ∷ ("again26" asks kind.Write writer.Again26)
+    ∷ ("again36" asks kind.Write writer.Again36)
+    ∷ []
+
+unfoldable pub kindOf : List Word → List ℕ → Kind
+kindOf [] name = kind.Unknown
+kindOf ((word asks k) ∷ rest) name = cond (same name (bytes word)) k (kindOf rest name)
+
+-- a text cut at its first space, or without one
+pub data Cut : Type 0 where
+  cut : List ℕ → List ℕ → Cut
+  whole : Cut
+
+unfoldable pub atSpace : List ℕ → Cut
+atSpace s = cond (ltb (firstOf (bytes " ") s) (length s)) (cut (take (firstOf (bytes " ") s) s) (drop (firstOf (bytes " ") s + 1) s)) whole
+
+-- digits alone; what is over a million counts as a million, which is more than any use of it allows
+abbrev pub capped : Num → Num
+capped (some n) = some (min n 1000000)
+capped none = none
+
+unfoldable pub numberIn : List ℕ → Num
+numberIn [] = none
+numberIn (b ∷ s) = capped (digitsFrom 0 (b ∷ s))
+
+abbrev pub numberOf : Number → Num
+numberOf (number.Value n) = some n
+numberOf number.Refused = none
+
+-- a number up to the first space, and what follows that
+pub data Sized : Type 0 where
+  sized : ℕ → List ℕ → Sized
+  unsized : Sized
+
+abbrev pub followedBy : Num → List ℕ → Sized
+followedBy (some n) rest = sized n rest
+followedBy none rest = unsized
+
+abbrev pub ofCut : Cut → Sized
+ofCut (cut n rest) = followedBy (numberIn n) rest
+ofCut whole = unsized
+
+unfoldable pub numberThen : List ℕ → Sized
+numberThen s = ofCut (atSpace s)
+
+-- what is asked; the bytes are still in hex
+pub data Asked : Type 0 where
+  reads : Reader → List ℕ → Asked
+  writes : Writer → ℕ → List ℕ → Asked
+  resends : ℕ → Asked
+  nothing : Asked
+
+abbrev pub withSize : Writer → Sized → Asked
+withSize w (sized size rest) = writes w size rest
+withSize w unsized = nothing
+
+abbrev pub withChannel : ℕ → Sized → Asked
+withChannel size (sized channel rest) = cond (leb channel 255) (writes (writer.Data channel) size rest) nothing
+withChannel size unsized = nothing
+
+abbrev pub withSizeAndChannel : Sized → Asked
+withSizeAndChannel (sized size rest) = withChannel size (numberThen rest)
+withSizeAndChannel unsized = nothing
+
+abbrev pub withSizeAlone : Num → Asked
+withSizeAlone (some size) = resends size
+withSizeAlone none = nothing
+
+abbrev pub byKind : Kind → List ℕ → Asked
+byKind (kind.Read r) rest = reads r rest
+byKind (kind.Write w) rest = withSize w (numberThen rest)
+byKind kind.Data rest = withSizeAndChannel (numberThen rest)
+byKind kind.Resend rest = withSizeAlone (numberIn rest)
+byKind kind.Unknown rest = nothing
+
+abbrev pub byWord : Cut → Asked
+byWord (cut word rest) = byKind (kindOf words word) rest
+byWord whole = nothing
+
+unfoldable pub asked : List ℕ → Asked
+asked line = byWord (atSpace line)
+
+-- what the code's answers say of a line: their places count from its start
+abbrev pub sizedOf : List ℕ → code.Sized → Sized
+sizedOf line (code.the-variants.Number value next) = sized value (drop next line)
+sizedOf line code.the-variants.Nothing = unsized
+
+abbrev pub askedOf : List ℕ → Question → Asked
+askedOf line (question.Read r from) = reads r (drop from line)
+askedOf line (question.Write w size from) = writes w size (drop from line)
+askedOf line (question.Resend size) = resends size
+askedOf line question.Nothing = nothing
