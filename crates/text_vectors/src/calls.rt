@@ -12,7 +12,7 @@ use text::field::Next;
 use text::number::Number8;
 use text::number::Number16;
 
-pub fn valid(s: &[u8]) {
+pub(crate) fn valid(s: &[u8]) {
     say(b"valid_up_to");
     hex(s);
     say(b": ");
@@ -20,14 +20,14 @@ pub fn valid(s: &[u8]) {
     line();
 }
 
-pub fn whole(s: &[u8]) {
+pub(crate) fn whole(s: &[u8]) {
     say(b"is_utf8");
     hex(s);
     say(b": ");
     yes_or_no(text::utf8::is_utf8(s));
 }
 
-pub fn inside(s: &[u8], place: usize) {
+pub(crate) fn inside(s: &[u8], place: usize) {
     say(b"inside_character");
     hex(s);
     say(b" at ");
@@ -36,30 +36,34 @@ pub fn inside(s: &[u8], place: usize) {
     yes_or_no(text::utf8::inside_character(s, place));
 }
 
-pub fn in_8_bits(s: &[u8]) {
+pub(crate) fn in_8_bits(s: &[u8]) {
     say(b"read8 ");
     quoted(s);
     say(b": ");
     match text::number::read8(s) {
         Number8::Value(n) => number(n as usize),
-        Number8::Refused => say(b"refused"),
+        Number8::Refused => {
+            say(b"refused");
+        }
     }
     line();
 }
 
-pub fn in_16_bits(s: &[u8]) {
+pub(crate) fn in_16_bits(s: &[u8]) {
     say(b"read16 ");
     quoted(s);
     say(b": ");
     match text::number::read16(s) {
         Number16::Value(n) => number(n as usize),
-        Number16::Refused => say(b"refused"),
+        Number16::Refused => {
+            say(b"refused");
+        }
     }
     line();
 }
 
 // Both widths on one text.
-pub fn read(s: &[u8]) {
+pub(crate) fn read(s: &[u8]) {
     in_8_bits(s);
     in_16_bits(s);
 }
@@ -77,8 +81,8 @@ fn field(s: &[u8], at: usize) -> usize {
     }
 }
 
-// The first eight fields from a place on, each behind its place.
-pub fn fields(s: &[u8], from: usize) {
+// The first eight fields from a place on, each after its place.
+pub(crate) fn fields(s: &[u8], from: usize) {
     say(b"fields ");
     quoted(s);
     say(b" from ");
@@ -93,7 +97,7 @@ pub fn fields(s: &[u8], from: usize) {
     line();
 }
 
-pub fn first(s: &[u8], from: usize) {
+pub(crate) fn first(s: &[u8], from: usize) {
     say(b"first_crlf");
     hex(s);
     say(b" from ");
@@ -102,14 +106,14 @@ pub fn first(s: &[u8], from: usize) {
     found(text::find::first_crlf(s, from));
 }
 
-pub fn last(s: &[u8]) {
+pub(crate) fn last(s: &[u8]) {
     say(b"last_crlf");
     hex(s);
     say(b": ");
     found(text::find::last_crlf(s));
 }
 
-pub fn colon(s: &[u8]) {
+pub(crate) fn colon(s: &[u8]) {
     say(b"first_byte : in ");
     quoted(s);
     say(b": ");
@@ -117,7 +121,7 @@ pub fn colon(s: &[u8]) {
 }
 
 // Eight dots, and what is written over them.
-pub fn in_decimal(n: u16, at: usize) {
+pub(crate) fn in_decimal(n: u16, at: usize) {
     let mut buf = [b'.'; 8];
     say(b"write16 ");
     number(n as usize);
@@ -129,7 +133,7 @@ pub fn in_decimal(n: u16, at: usize) {
     line();
 }
 
-pub fn byte_in_decimal(n: u8, at: usize) {
+pub(crate) fn byte_in_decimal(n: u8, at: usize) {
     let mut buf = [b'.'; 8];
     say(b"write8 ");
     number(n as usize);
@@ -141,7 +145,7 @@ pub fn byte_in_decimal(n: u8, at: usize) {
     line();
 }
 
-pub fn put(s: &[u8], at: usize) {
+pub(crate) fn put(s: &[u8], at: usize) {
     let mut buf = [b'.'; 8];
     say(b"put ");
     quoted(s);
@@ -153,7 +157,7 @@ pub fn put(s: &[u8], at: usize) {
     line();
 }
 
-pub fn part(s: &[u8], start: usize, len: usize) {
+pub(crate) fn part(s: &[u8], start: usize, len: usize) {
     say(b"part ");
     quoted(s);
     say(b" from ");
@@ -165,7 +169,7 @@ pub fn part(s: &[u8], start: usize, len: usize) {
     line();
 }
 
-pub fn same(a: &[u8], b: &[u8]) {
+pub(crate) fn same(a: &[u8], b: &[u8]) {
     say(b"same ");
     quoted(a);
     say(b" ");
@@ -174,7 +178,7 @@ pub fn same(a: &[u8], b: &[u8]) {
     yes_or_no(text::bytes::same(a, b));
 }
 
-pub fn starts(s: &[u8], at: usize, t: &[u8]) {
+pub(crate) fn starts(s: &[u8], at: usize, t: &[u8]) {
     say(b"starts_at ");
     quoted(s);
     say(b" at ");

@@ -1,5 +1,5 @@
 // Runs the text functions on vectors and writes a line for each: the edges of Table 3-7 of the Unicode Standard, and the rules of numbers, fields and
-// places. The file stdout has the answers as the documents give them.
+// places. The file stdout has the answers as the documents give them. Where the heading cannot be written, nothing else is tried.
 mod calls;
 mod show;
 
@@ -17,6 +17,7 @@ use crate::calls::same;
 use crate::calls::starts;
 use crate::calls::valid;
 use crate::calls::whole;
+use crate::show::say;
 
 // The first and the last sequence of each row, and the nearest ones outside it.
 fn two_bytes() {
@@ -150,6 +151,9 @@ fn parts() {
 }
 
 fn main() {
+    if !say(b"# What the text functions answer\n") {
+        return;
+    }
     one_byte();
     two_bytes();
     three_bytes();

@@ -3,25 +3,32 @@ use libc::STDOUT_FILENO;
 use text::find::Found;
 use text::put::Wrote;
 
-pub fn say(s: &[u8]) {
-    io::write_all(STDOUT_FILENO, s);
+// Whether all of `s` was written. Where it was not, a line on standard error says why.
+pub(crate) fn say(s: &[u8]) -> bool {
+    if io::write_all(STDOUT_FILENO, s) {
+        return true;
+    }
+    os::fail(b"text_vectors: cannot write standard output");
+    false
 }
 
-pub fn number(n: usize) {
-    io::print_decimal(STDOUT_FILENO, n as u64);
+pub(crate) fn number(n: usize) {
+    let mut digits = [0u8; 20];
+    let k = io::decimal(n as u64, &mut digits);
+    say(&digits[..k]);
 }
 
-pub fn line() {
+pub(crate) fn line() {
     say(b"\n");
 }
 
-pub fn quoted(s: &[u8]) {
+pub(crate) fn quoted(s: &[u8]) {
     say(b"\"");
     say(s);
     say(b"\"");
 }
 
-pub fn yes_or_no(b: bool) {
+pub(crate) fn yes_or_no(b: bool) {
     if b {
         say(b"yes\n");
     } else {
@@ -38,7 +45,7 @@ fn digit(n: u8) -> u8 {
 }
 
 // Each byte as a space and two digits.
-pub fn hex(s: &[u8]) {
+pub(crate) fn hex(s: &[u8]) {
     let mut i = 0;
     while i < s.len() {
         let b = s[i];
@@ -48,24 +55,28 @@ pub fn hex(s: &[u8]) {
     }
 }
 
-pub fn found(f: Found) {
+pub(crate) fn found(f: Found) {
     match f {
         Found::At(i) => {
             say(b"at ");
             number(i);
         }
-        Found::Nothing => say(b"nothing"),
+        Found::Nothing => {
+            say(b"nothing");
+        }
     }
     line();
 }
 
-pub fn wrote(w: Wrote) {
+pub(crate) fn wrote(w: Wrote) {
     match w {
         Wrote::To(end) => {
             say(b"to ");
             number(end);
         }
-        Wrote::NoRoom => say(b"no room"),
+        Wrote::NoRoom => {
+            say(b"no room");
+        }
     }
     say(b", ");
 }
