@@ -1,4 +1,5 @@
 // Judges the first 4,100 bytes of standard input as one EDM frame, and prints what it is as one line.
+use libc::STDERR_FILENO;
 use libc::STDIN_FILENO;
 use libc::STDOUT_FILENO;
 use render::word::word;
@@ -52,6 +53,14 @@ fn read_full(input: &mut [u8]) -> Got
 }
 
 fn main() {
+    // A name of a file would go unread, and the line would then be about other bytes.
+    if 1 < os::arg_count() {
+        io::write_all(
+            STDERR_FILENO,
+            b"judge: takes no argument, reads the frame from standard input\n",
+        );
+        return;
+    }
     let mut input = [0u8; 4100];
     let got = read_full(&mut input);
     if got.failed {

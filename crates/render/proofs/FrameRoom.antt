@@ -23,7 +23,7 @@ use Rattle.render.specs.Frame.{frameLine}
 use Rattle.render.proofs.WordLengths.{frame-refused-room, data-none, data-place, data-number}
 use Rattle.render.proofs.RowTests.{cheap-26}
 use Rattle.render.proofs.LineRoom.{spans-26, answer-room}
-use Rattle.render.proofs.ResponseRoom.{reply-room}
+use Rattle.render.proofs.ResponseRoom.{response-room-at}
 
 -- every number is a byte, and so in a part
 abbrev Bytes : List ℕ → Type 0
@@ -105,7 +105,7 @@ module _ (src : List ℕ) (p : ℕ) (t : List ℕ) (h : Bytes t) where
   payload-room disconnect = disconnect-room
   payload-room dataEvent = data-room
   payload-room request = request-room
-  payload-room responses = omega (arith, of-response src (readResponse p t), reply-room src p t)
+  payload-room responses = omega (arith, of-response src (readResponse p t), response-room-at src p t)
   payload-room atEvent = omega (arith, of-event src (readLine w26 p t), answer-room cases26 w26 cheap-26 spans-26 src p t)
   payload-room resend = omega arith
   payload-room start = omega arith

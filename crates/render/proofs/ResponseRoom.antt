@@ -56,9 +56,9 @@ module _ (src : List ℕ) where
       go false = omega (arith, refused-room 12)
 
   -- at any place of any source
-  pub reply-room : (p : ℕ) (s : List ℕ) → length (responseLine src (readResponse p s)) ≤ 2 * length s + 50
+  pub response-room-at : (p : ℕ) (s : List ℕ) → length (responseLine src (readResponse p s)) ≤ 2 * length s + 50
   unfolding readResponse
-  reply-room p s = go (utf8 s) (ltb (firstOf crlf s) (length s)) (firstOf crlf s + 2)
+  response-room-at p s = go (utf8 s) (ltb (firstOf crlf s) (length s)) (firstOf crlf s + 2)
     where
       go : (u k : Bool) (i : ℕ) → length (responseLine src (cond u (cond k (readRest (p + firstOf crlf s + 2) (drop i s)) (refusal 12)) (refusal 11))) ≤ 2 * length s + 50
       go true true i = omega (arith, rest-room (p + firstOf crlf s + 2) (drop i s), length-drop i s)
@@ -66,4 +66,4 @@ module _ (src : List ℕ) where
       go false k i = omega (arith, refused-room 11)
 
 pub response-room : (s : List ℕ) → length (responseLine s (readResponse 0 s)) ≤ 2 * length s + 150
-response-room s = omega (arith, reply-room s 0 s)
+response-room s = omega (arith, response-room-at s 0 s)

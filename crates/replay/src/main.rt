@@ -11,6 +11,7 @@ use crate::session::Session;
 use crate::session::lines;
 use crate::session::turn;
 use crate::session::write_out;
+use libc::STDERR_FILENO;
 use text::bytes::part;
 ghost use Rattle.replay.specs.Buffers.{Buffers};
 
@@ -50,6 +51,13 @@ fn run(input: &mut [u8], output: &mut [u8], bytes: &mut [u8], target: &mut [u8])
 // The input holds a longest line and what is read after it, the output an answer to a longest line and those before it. The bytes that a
 // line spells are half as many as its digits, and a written frame or event has no more than the largest SIZE.
 fn main() {
+    if 1 < os::arg_count() {
+        io::write_all(
+            STDERR_FILENO,
+            b"replay: takes no argument, reads lines from standard input\n",
+        );
+        return;
+    }
     let mut input = [0u8; 524288];
     let mut output = [0u8; 524288];
     let mut bytes = [0u8; 131072];

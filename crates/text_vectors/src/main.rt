@@ -18,6 +18,7 @@ use crate::calls::starts;
 use crate::calls::valid;
 use crate::calls::whole;
 use crate::show::say;
+use libc::STDERR_FILENO;
 
 // The first and the last sequence of each row, and the nearest ones outside it.
 fn two_bytes() {
@@ -151,6 +152,10 @@ fn parts() {
 }
 
 fn main() {
+    if 1 < os::arg_count() {
+        io::write_all(STDERR_FILENO, b"text_vectors: takes no argument\n");
+        return;
+    }
     if !say(b"# What the text functions answer\n") {
         return;
     }
