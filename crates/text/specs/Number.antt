@@ -3,8 +3,6 @@ use Prim.Native.Nat.{ℕ, _+_, _*_, _-_, _^_}
 use mathlib.Core.List.{List, [], _∷_}
 use mathlib.Core.Bool.{Bool, cond, _&&_}
 use lib.Dec.{eqb, ltb, leb}
-use Rattle.text.specs.declared.number.Spelt.{Spelt}
-use Rattle.text.specs.declared.number.Spelt.the-variants as n
 use Rattle.text.specs.declared.number.Number8.{Number8}
 use Rattle.text.specs.declared.number.Number8.the-variants as n8
 use Rattle.text.specs.declared.number.Number16.{Number16}
@@ -19,7 +17,7 @@ pub data Num : Type 0 where
 abbrev pub isDigit : ℕ → Bool
 isDigit b = leb 48 b && leb b 57
 
--- the value of digits that stand behind a value so far; none where a byte is no digit
+-- the value of digits that stand after a value so far; none where a byte is no digit
 unfoldable pub digitsFrom : ℕ → List ℕ → Num
 digitsFrom v [] = some v
 digitsFrom v (b ∷ s) = cond (isDigit b) (digitsFrom (v * 10 + (b - 48)) s) none
@@ -51,8 +49,3 @@ shown8 n8.Refused = none
 abbrev pub shown16 : Number16 → Num
 shown16 (n16.Value n) = some n
 shown16 n16.Refused = none
-
--- the private answer of the code, before the number has its width
-abbrev pub spelt : Spelt → Num
-spelt (n.Value v) = some v
-spelt n.Nothing = none

@@ -2,7 +2,8 @@
 ghost use mathlib.Core.Path.{_≡_};
 ghost use Prim.Native.Nat.{_≤_, _<_};
 ghost use lib.ListN.{drop};
-ghost use Rattle.text.specs.Number.{digits, signed, number, spelt, shown8, shown16};
+ghost use Rattle.text.specs.Number.{digits, signed, number, shown8, shown16};
+ghost use Rattle.text.specs.NumberSteps.{spelt};
 
 pub enum Number8 {
     Value(u8),
