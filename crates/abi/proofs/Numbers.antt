@@ -2,24 +2,25 @@
 use Prim.Native.Nat.{ℕ, _+_, _-_, _≤_}
 use mathlib.Core.Path.{_≡_, refl}
 use mathlib.Core.List.{List, [], _∷_}
-use mathlib.Core.Bool.{Bool, true, false, cond, _||_}
+use mathlib.Core.Bool.{Bool, true, _||_}
 use lib.Dec.{eqb, leb, ltb}
 use lib.ListN.{length, take, drop}
 use borrow.Author.Tests.{leb-true}
 use Rattle.text.specs.Bytes.{bytes, same, startsWith}
-use Rattle.text.specs.Find.{crlf, firstOf, lastOf}
+use Rattle.text.specs.Find.{crlf, firstOf}
 use Rattle.text.specs.Number.{Num, some, none, number}
 use Rattle.text.specs.Field.{Field, field}
 use Rattle.text.specs.Utf8.{utf8, insideCharacter}
-use Rattle.text.specs.declared.find.Found.{Found}
-use Rattle.text.specs.declared.find.Found.the-variants.{At, Nothing}
-use Rattle.at.specs.Event.{Kind, bits, text, ipType, protocol, reason, Row, kindsOf, Value, Outcome, event, refusal, Answer, eventTo, noEvent, upTo, One, good, bad, listed, isProtocol, isReason, readField, Taken, took, stop, andRest, takeKind, Read, values, refused, prepend, andThen, takeKinds, outcome, readRow}
-use Rattle.at.specs.Line.{before, endsIn, Radio, Framed, body, broken, ended, framed, Hit, hit, miss, search, fieldsAfter, readHit, readText, readFramed, readLine}
-use Rattle.at.specs.Binary as binary
-use Rattle.at.specs.Response as response
-use Rattle.edm.specs.Packet as frame
-use Rattle.edm.specs.Payload as payload
-use Rattle.edm.specs.Frame.{delimited, lengthField, payload as payloadOf, readFrame}
+use Rattle.text.proofs.Bools.{either}
+use Rattle.at.specs.Refusal.{OrRefused, good, refused}
+use Rattle.at.specs.Event.{Kind, bits, text, ipType, protocol, reason, Row, nameOf, kindsOf, Value, ReadEvent, eventTo, upTo, listed, isProtocol, isReason, readField, Taken, took, andRest, takeKind, Read, values, prepend, andThen, takeKinds, withValues, readRow}
+use Rattle.at.specs.Line.{before, endsIn, Radio, Body, body, ended, framed, search, fieldsAfter, readNamed, readText, readFramed, readLine}
+use Rattle.at.specs.Binary.{readFields, marker, findMarker, announced, Data, dataAt, readData, withData, readMarked, readBody, Tried, notBinary, tried, prefix, tryRows}
+use Rattle.at.specs.Response.{readRest, readResponse}
+use Rattle.at.specs.W26.{w26}
+use Rattle.edm.specs.Packet.{Carries, connect, disconnect, dataEvent, request, response, atEvent, resend, start, unknown, identifiers, carried}
+use Rattle.edm.specs.Payload.{byte, word, readConnect, readDisconnect, readDataEvent, readRequest, ofResponse, ofEvent, readPayload}
+use Rattle.edm.specs.Frame.{delimited, lengthField, payload, readFrame}
 
 pub record Known (n : ℕ) : Type 0 where
   pub least : 1 ≤ n
@@ -28,199 +29,139 @@ pub record Known (n : ℕ) : Type 0 where
 pub known : (n : ℕ) → leb 1 n ≡ true → leb n 16 ≡ true → Known n
 known n a b = record { least = leb-true 1 n a; most = leb-true n 16 b }
 
-pub either : {A : Type 0} (P : A → Type 0) (b : Bool) {x y : A} → P x → P y → P (cond b x y)
-either P true p q = p
-either P false p q = q
+-- of any answer: where it is refused, its number is known
+abbrev pub Ok : {A : Type 0} → OrRefused A → Type 0
+Ok (good a) = Unit {0}
+Ok (refused n) = Known n
 
--- of each kind of answer: where it is a refusal, its number is known
-abbrev One-ok : One → Type 0
-One-ok (good v) = Unit {0}
-One-ok (bad n) = Known n
-
-abbrev Taken-ok : Taken → Type 0
-Taken-ok (took v fs) = Unit {0}
-Taken-ok (stop n) = Known n
-
-abbrev Read-ok : Read → Type 0
-Read-ok (values vs fs) = Unit {0}
-Read-ok (refused n) = Known n
-
-abbrev Event-ok : Outcome → Type 0
-Event-ok (event r vs) = Unit {0}
-Event-ok (refusal n) = Known n
-
-abbrev Framed-ok : Framed → Type 0
-Framed-ok (body p t) = Unit {0}
-Framed-ok (broken n) = Known n
-
-abbrev pub Answer-ok : Answer → Type 0
-Answer-ok (eventTo r vs past) = Unit {0}
-Answer-ok (noEvent n) = Known n
-
-abbrev Marked-ok : binary.Marked → Type 0
-Marked-ok (binary.markedAt k) = Unit {0}
-Marked-ok (binary.unmarked n) = Known n
-
-abbrev Data-ok : binary.Data → Type 0
-Data-ok (binary.dataAt p n) = Unit {0}
-Data-ok (binary.noData n) = Known n
-
-abbrev pub Tried-ok : binary.Tried → Type 0
-Tried-ok binary.notBinary = Unit {0}
-Tried-ok (binary.tried a) = Answer-ok a
-
-abbrev pub Response-ok : response.Response → Type 0
-Response-ok (response.ok p n) = Unit {0}
-Response-ok response.error = Unit {0}
-Response-ok (response.other p n) = Unit {0}
-Response-ok (response.refusal n) = Known n
-
-abbrev pub Frame-ok : frame.Outcome → Type 0
-Frame-ok (frame.packet p) = Unit {0}
-Frame-ok (frame.refusal n) = Known n
+-- what hands a refusal on hands its number on
+handed-on : {A B : Type 0} (f : OrRefused A → OrRefused B) → ((a : A) → Ok (f (good a))) → ((n : ℕ) → f (refused n) ≡ refused n) → (o : OrRefused A) → Ok o → Ok (f o)
+handed-on f g r (good a) h = g a
+handed-on f g r (refused n) h = rw (r n) h
 
 -- the fields of an event
-listed-ok : (f : ℕ → Bool) (m : Num) → One-ok (listed f m)
-listed-ok f (some n) = either One-ok (f n) tt (known 15 refl refl)
+listed-ok : (f : ℕ → Bool) (m : Num) → Ok (listed f m)
+listed-ok f (some n) = either Ok (f n) tt (known 15 refl refl)
 listed-ok f none = known 15 refl refl
 
-field-ok : (k : Kind) (p : ℕ) (b : List ℕ) → One-ok (readField k p b)
+field-ok : (k : Kind) (p : ℕ) (b : List ℕ) → Ok (readField k p b)
 unfolding readField
 field-ok (bits w) p b = listed-ok (λ n. true) (number w b)
 field-ok text p b = tt
-field-ok ipType p b = either One-ok (same b (bytes "2")) tt (either One-ok (same b (bytes "3")) tt (known 13 refl refl))
+field-ok ipType p b = either Ok (same b (bytes "2")) tt (either Ok (same b (bytes "3")) tt (known 13 refl refl))
 field-ok protocol p b = listed-ok isProtocol (number 8 b)
 field-ok reason p b = listed-ok isReason (number 8 b)
 
-rest-ok : (o : One) (fs : List Field) → One-ok o → Taken-ok (andRest o fs)
-rest-ok (good v) fs h = tt
-rest-ok (bad n) fs h = h
-
-kind-ok : (k : Kind) (fs : List Field) → Taken-ok (takeKind k fs)
+kind-ok : (k : Kind) (fs : List Field) → Ok (takeKind k fs)
 unfolding takeKind
 kind-ok k [] = known 14 refl refl
-kind-ok k (field p b ∷ fs) = rest-ok (readField k p b) fs (field-ok k p b)
+kind-ok k (field p b ∷ fs) = handed-on (λ v. andRest v fs) (λ v. tt) (λ n. refl) (readField k p b) (field-ok k p b)
 
-prepend-ok : (v : Value) (r : Read) → Read-ok r → Read-ok (prepend v r)
-prepend-ok v (values vs fs) h = tt
+prepend-ok : (v : Value) (r : OrRefused Read) → Ok r → Ok (prepend v r)
+prepend-ok v (good (values vs fs)) h = tt
 prepend-ok v (refused n) h = h
 
-then-ok : (t : Taken) (more : List Field → Read) → Taken-ok t → ((fs : List Field) → Read-ok (more fs)) → Read-ok (andThen t more)
-then-ok (took v fs) more h k = prepend-ok v (more fs) (k fs)
-then-ok (stop n) more h k = h
+then-ok : (t : OrRefused Taken) (more : List Field → OrRefused Read) → Ok t → ((fs : List Field) → Ok (more fs)) → Ok (andThen t more)
+then-ok (good (took v fs)) more h k = prepend-ok v (more fs) (k fs)
+then-ok (refused n) more h k = h
 
-kinds-ok : (ks : List Kind) (fs : List Field) → Read-ok (takeKinds ks fs)
+kinds-ok : (ks : List Kind) (fs : List Field) → Ok (takeKinds ks fs)
 unfolding takeKinds
 kinds-ok [] fs = tt
 kinds-ok (k ∷ ks) fs = then-ok (takeKind k fs) (λ rest. takeKinds ks rest) (kind-ok k fs) (λ rest. kinds-ok ks rest)
 
 -- an event line
-outcome-ok : (r : Row) (v : Read) → Read-ok v → Event-ok (outcome r v)
-outcome-ok r (values vs fs) h = tt
-outcome-ok r (refused n) h = h
-
-hit-ok : (h : Hit) (fs : List Field) → Event-ok (readHit h fs)
+row-ok : (r : Row) (fs : List Field) → Ok (readRow r fs)
 unfolding readRow
-hit-ok (hit r) fs = outcome-ok r (takeKinds (kindsOf r) fs) (kinds-ok (kindsOf r) fs)
-hit-ok miss fs = known 16 refl refl
+row-ok r fs = go (takeKinds (kindsOf r) fs) (kinds-ok (kindsOf r) fs)
+  where
+    go : (v : OrRefused Read) → Ok v → Ok (withValues r v)
+    go (good (values vs rest)) h = tt
+    go (refused n) h = h
 
-framed-ok : (p : ℕ) (s : List ℕ) → Framed-ok (framed p s)
+search-ok : (rows : List Row) (name : List ℕ) → Ok (search rows name)
+unfolding search
+search-ok [] name = known 16 refl refl
+search-ok (r ∷ rows) name = either Ok (same name (nameOf r)) tt (search-ok rows name)
+
+framed-ok : (p : ℕ) (s : List ℕ) → Ok (framed p s)
 unfolding framed ended
 framed-ok p s =
-    either Framed-ok (utf8 s)
-    (either Framed-ok (ltb (length s) 2 || insideCharacter s 2) (known 12 refl refl) (either Framed-ok (endsIn (drop 2 s) crlf) tt (known 12 refl refl)))
-    (known 11 refl refl)
+    let last = either Ok (endsIn (drop 2 s) crlf) tt (known 12 refl refl) in
+    either Ok (utf8 s) (either Ok (ltb (length s) 2 || insideCharacter s 2) (known 12 refl refl) last) (known 11 refl refl)
 
-read-ok : (radio : Radio) (f : Framed) → Framed-ok f → Event-ok (readFramed radio f)
+read-ok : (radio : Radio) (f : OrRefused Body) → Ok f → Ok (readFramed radio f)
 unfolding readText
-read-ok radio (body p t) h = hit-ok (search (radio .rows) (before (bytes ":") (radio .kept t))) (fieldsAfter p (radio .kept t))
-read-ok radio (broken n) h = h
+read-ok radio (good (body p t)) h =
+    let name = before (bytes ":") (radio .kept t) in
+    handed-on (λ r. readNamed r (fieldsAfter p (radio .kept t))) (λ r. row-ok r _) (λ n. refl) (search (radio .rows) name) (search-ok (radio .rows) name)
+read-ok radio (refused n) h = h
 
-upTo-ok : (q : ℕ) (o : Outcome) → Event-ok o → Answer-ok (upTo q o)
-upTo-ok q (event r vs) h = tt
-upTo-ok q (refusal n) h = h
-
-pub line-ok : (radio : Radio) (p : ℕ) (s : List ℕ) → Answer-ok (readLine radio p s)
+pub line-ok : (radio : Radio) (p : ℕ) (s : List ℕ) → Ok (readLine radio p s)
 unfolding readLine
-line-ok radio p s = upTo-ok (p + radio .spans s) (readFramed radio (framed p s)) (read-ok radio (framed p s) (framed-ok p s))
+line-ok radio p s =
+    handed-on (upTo (p + radio .spans s)) (λ e. tt) (λ n. refl) (readFramed radio (framed p s)) (read-ok radio (framed p s) (framed-ok p s))
 
 -- a binary event
-marker-ok : (t : List ℕ) → Marked-ok (binary.findMarker t)
-unfolding binary.findMarker
-marker-ok t =
-    either Marked-ok (ltb (firstOf binary.marker t) (length t))
-    (either Marked-ok (utf8 (take (firstOf binary.marker t) t)) tt (known 11 refl refl))
-    (known 12 refl refl)
+marker-ok : (t : List ℕ) → Ok (findMarker t)
+unfolding findMarker
+marker-ok t = either Ok (ltb (firstOf marker t) (length t)) (either Ok (utf8 (take (firstOf marker t) t)) tt (known 11 refl refl)) (known 12 refl refl)
 
-data-ok : (p : ℕ) (t : List ℕ) → Data-ok (binary.readData p t)
-unfolding binary.readData
-data-ok p t = either Data-ok (leb 2 (length t)) (either Data-ok (leb (binary.announced t) (length t - 2)) tt (known 12 refl refl)) (known 12 refl refl)
+data-ok : (p : ℕ) (t : List ℕ) → Ok (readData p t)
+unfolding readData
+data-ok p t = either Ok (leb 2 (length t)) (either Ok (leb (announced t) (length t - 2)) tt (known 12 refl refl)) (known 12 refl refl)
 
-withData-ok : (r : Row) (v : Read) (d : binary.Data) → Read-ok v → Data-ok d → Answer-ok (binary.withData r v d)
-withData-ok r (values vs fs) (binary.dataAt p n) h k = tt
-withData-ok r (values vs fs) (binary.noData n) h k = k
-withData-ok r (refused n) d h k = h
+with-data-ok : (r : Row) (v : OrRefused Read) (d : OrRefused Data) → Ok v → Ok d → Ok (withData r v d)
+with-data-ok r (good (values vs fs)) (good (dataAt p n)) h k = tt
+with-data-ok r (good (values vs fs)) (refused n) h k = k
+with-data-ok r (refused n) d h k = h
 
-marked-ok : (r : Row) (p : ℕ) (t : List ℕ) (m : binary.Marked) → Marked-ok m → Answer-ok (binary.readMarked r p t m)
-unfolding binary.readFields
-marked-ok r p t (binary.markedAt k) h = withData-ok r (binary.readFields r p (take k t)) (binary.readData (p + k + 1) (drop (k + 1) t)) (kinds-ok (kindsOf r) _) (data-ok (p + k + 1) (drop (k + 1) t))
-marked-ok r p t (binary.unmarked n) h = h
+marked-ok : (r : Row) (p : ℕ) (t : List ℕ) (m : OrRefused ℕ) → Ok m → Ok (readMarked r p t m)
+unfolding readFields
+marked-ok r p t (good k) h =
+    with-data-ok r (readFields r p (take k t)) (readData (p + k + 1) (drop (k + 1) t)) (kinds-ok (kindsOf r) _) (data-ok (p + k + 1) (drop (k + 1) t))
+marked-ok r p t (refused n) h = h
 
-pub binary-ok : (rows : List Row) (p : ℕ) (s : List ℕ) → Tried-ok (binary.tryRows rows p s)
-unfolding binary.tryRows binary.readBody
+abbrev pub Tried-ok : Tried → Type 0
+Tried-ok notBinary = Unit {0}
+Tried-ok (tried a) = Ok a
+
+pub binary-ok : (rows : List Row) (p : ℕ) (s : List ℕ) → Tried-ok (tryRows rows p s)
+unfolding tryRows readBody
 binary-ok [] p s = tt
 binary-ok (r ∷ rs) p s =
-    either Tried-ok (startsWith s (binary.prefix r))
-    (marked-ok r _ _ (binary.findMarker (drop (length (binary.prefix r)) s)) (marker-ok (drop (length (binary.prefix r)) s)))
-    (binary-ok rs p s)
+    let t = drop (length (prefix r)) s in
+    either Tried-ok (startsWith s (prefix r)) (marked-ok r (p + length (prefix r)) t (findMarker t) (marker-ok t)) (binary-ok rs p s)
 
 -- a response
-last-ok : (p : ℕ) (t : List ℕ) (f : Found) → Response-ok (response.byLast p t f)
-last-ok p t (At i) = either Response-ok (same (drop (i + 2) t) (bytes "OK")) tt tt
-last-ok p t Nothing = tt
-
-pub response-ok : (p : ℕ) (s : List ℕ) → Response-ok (response.readResponse p s)
-unfolding response.readResponse response.readRest response.readBody
+pub response-ok : (p : ℕ) (s : List ℕ) → Ok (readResponse p s)
+unfolding readResponse readRest
 response-ok p s =
-    let t = drop (firstOf crlf s + 2) s in
-    let u = take (length t - 2) t in
-    either Response-ok (utf8 s)
-    (either Response-ok (ltb (firstOf crlf s) (length s))
-    (either Response-ok (endsIn t crlf)
-    (either Response-ok (same u (bytes "OK")) tt (either Response-ok (same u (bytes "ERROR")) tt (last-ok _ u (lastOf crlf u))))
-    (known 12 refl refl))
-    (known 12 refl refl))
-    (known 11 refl refl)
+    let i = firstOf crlf s in
+    let last = either Ok (endsIn (drop (i + 2) s) crlf) tt (known 12 refl refl) in
+    either Ok (utf8 s) (either Ok (ltb i (length s)) last (known 12 refl refl)) (known 11 refl refl)
 
 -- a frame
-ofResponse-ok : (a : response.Response) → Response-ok a → Frame-ok (payload.ofResponse a)
-ofResponse-ok (response.ok p n) h = tt
-ofResponse-ok response.error h = tt
-ofResponse-ok (response.other p n) h = tt
-ofResponse-ok (response.refusal n) h = h
+of-event-ok : (a : OrRefused ReadEvent) → Ok a → Ok (ofEvent a)
+of-event-ok (good (eventTo e past)) h = tt
+of-event-ok (refused n) h = h
 
-ofEvent-ok : (a : Answer) → Answer-ok a → Frame-ok (payload.ofEvent a)
-ofEvent-ok (eventTo r vs past) h = tt
-ofEvent-ok (noEvent n) h = h
+payload-ok : (k : Carries) (p : ℕ) (t : List ℕ) → Ok (readPayload k p t)
+unfolding readConnect readDisconnect readDataEvent readRequest
+payload-ok connect p t =
+    either Ok (ltb (length t) 2) (known 2 refl refl) (either Ok (eqb (byte t 1) 2) (either Ok (eqb (length t) 15) tt (known 6 refl refl)) (known 5 refl refl))
+payload-ok disconnect p t = either Ok (eqb (length t) 1) tt (known 7 refl refl)
+payload-ok dataEvent p t = either Ok (ltb (length t) 1) (known 2 refl refl) tt
+payload-ok request p t = either Ok (utf8 t) tt (known 8 refl refl)
+payload-ok response p t = handed-on ofResponse (λ r. tt) (λ n. refl) (readResponse p t) (response-ok p t)
+payload-ok atEvent p t = of-event-ok (readLine w26 p t) (line-ok w26 p t)
+payload-ok resend p t = tt
+payload-ok start p t = tt
+payload-ok unknown p t = known 4 refl refl
 
-payload-ok : (k : frame.Carries) (p : ℕ) (t : List ℕ) → Frame-ok (payload.readPayload k p t)
-unfolding payload.readConnect payload.readDisconnect payload.readDataEvent payload.readRequest
-payload-ok frame.connect p t =
-    either Frame-ok (ltb (length t) 2) (known 2 refl refl)
-    (either Frame-ok (eqb (payload.byte t 1) 2) (either Frame-ok (eqb (length t) 15) tt (known 6 refl refl)) (known 5 refl refl))
-payload-ok frame.disconnect p t = either Frame-ok (eqb (length t) 1) tt (known 7 refl refl)
-payload-ok frame.dataEvent p t = either Frame-ok (ltb (length t) 1) (known 2 refl refl) tt
-payload-ok frame.request p t = either Frame-ok (utf8 t) tt (known 8 refl refl)
-payload-ok frame.response p t = ofResponse-ok (response.readResponse p t) (response-ok p t)
-payload-ok frame.atEvent p t = ofEvent-ok (readLine _ p t) (line-ok _ p t)
-payload-ok frame.resend p t = tt
-payload-ok frame.start p t = tt
-payload-ok frame.unknown p t = known 4 refl refl
-
-pub frame-ok : (s : List ℕ) → Frame-ok (readFrame s)
+pub frame-ok : (s : List ℕ) → Ok (readFrame s)
 unfolding readFrame
 frame-ok s =
-    either Frame-ok (delimited s)
-    (either Frame-ok (ltb (length s) 6) (known 2 refl refl)
-    (either Frame-ok (eqb (lengthField s) (length (payloadOf s) + 2)) (payload-ok (frame.carried frame.identifiers (payload.word s 3)) 5 (payloadOf s)) (known 3 refl refl)))
-    (known 1 refl refl)
+    let held = payload-ok (carried identifiers (word s 3)) 5 (payload s) in
+    let sized = either Ok (eqb (lengthField s) (length (payload s) + 2)) held (known 3 refl refl) in
+    either Ok (delimited s) (either Ok (ltb (length s) 6) (known 2 refl refl) sized) (known 1 refl refl)

@@ -11,6 +11,7 @@ ghost use mathlib.Core.List.{[], _∷_};
 ghost use lib.ListN.{length};
 ghost use Rattle.text.specs.Utf8.{validUpTo};
 ghost use Rattle.at.specs.Refusal as at-refusal;
+ghost use Rattle.at.specs.Refusal.{good};
 ghost use Rattle.at.specs.Line.{readLine};
 ghost use Rattle.at.specs.W26.{w26};
 ghost use Rattle.at.specs.W36.{w36, binaryTable};
@@ -19,7 +20,7 @@ ghost use Rattle.at.specs.Response.{readResponse};
 ghost use Rattle.edm.specs.Refusal.{refusalNo};
 ghost use Rattle.edm.specs.Frame.{readFrame};
 ghost use Rattle.edm.specs.Command.{command, requestOf, toSend, shown};
-ghost use Rattle.abi.specs.Code.{frameCode, eventCode, responseCode, binaryCode, writeCode, Sends};
+ghost use Rattle.abi.specs.Code.{readCode, binaryCode, writeCode, Sends};
 
 fn at_number(e: AtPacketError) -> u8
     ensures { λ r. ⌜ r ≡ at-refusal.refusalNo e ⌝ }
@@ -63,7 +64,7 @@ fn written(a: WriteAnswer) -> usize
 
 #[no_mangle]
 pub extern "C" fn mirvoncle_frame(s: &[u8]) -> u8
-    ensures { λ r. ⌜ r ≡ frameCode (readFrame (now (s .entry))) ⌝ }
+    ensures { λ r. ⌜ r ≡ readCode (readFrame (now (s .entry))) ⌝ }
 {
     match edm::frame::read(s) {
         FrameAnswer::Packet(_) => 0,
@@ -73,7 +74,7 @@ pub extern "C" fn mirvoncle_frame(s: &[u8]) -> u8
 
 #[no_mangle]
 pub extern "C" fn mirvoncle_w26(s: &[u8]) -> u8
-    ensures { λ r. ⌜ r ≡ eventCode (readLine w26 0 (now (s .entry))) ⌝ }
+    ensures { λ r. ⌜ r ≡ readCode (readLine w26 0 (now (s .entry))) ⌝ }
 {
     match at::w26::read(s, 0) {
         at::w26::EventAnswer::Event { event: _, past: _ } => 0,
@@ -83,7 +84,7 @@ pub extern "C" fn mirvoncle_w26(s: &[u8]) -> u8
 
 #[no_mangle]
 pub extern "C" fn mirvoncle_w36(s: &[u8]) -> u8
-    ensures { λ r. ⌜ r ≡ eventCode (readLine w36 0 (now (s .entry))) ⌝ }
+    ensures { λ r. ⌜ r ≡ readCode (readLine w36 0 (now (s .entry))) ⌝ }
 {
     match at::w36::read(s, 0) {
         at::w36::EventAnswer::Event { event: _, past: _ } => 0,
@@ -104,7 +105,7 @@ pub extern "C" fn mirvoncle_w36_binary(s: &[u8]) -> u8
 
 #[no_mangle]
 pub extern "C" fn mirvoncle_response(s: &[u8]) -> u8
-    ensures { λ r. ⌜ r ≡ responseCode (readResponse 0 (now (s .entry))) ⌝ }
+    ensures { λ r. ⌜ r ≡ readCode (readResponse 0 (now (s .entry))) ⌝ }
 {
     match at::response::read(s, 0) {
         ResponseAnswer::Response(_) => 0,
@@ -122,7 +123,7 @@ pub extern "C" fn mirvoncle_utf8_prefix(s: &[u8]) -> usize
 
 #[no_mangle]
 pub extern "C" fn mirvoncle_write_data(buf: &mut [u8], channel: u8, data: &[u8]) -> usize
-    ensures { λ r. ⌜ Sends (now (buf .entry)) (toSend (length (now (buf .entry))) (command 0x36 (channel ∷ now («data» .entry)))) r (now (buf .exit)) ⌝ }
+    ensures { λ r. ⌜ Sends (now (buf .entry)) (toSend (length (now (buf .entry))) (good (command 0x36 (channel ∷ now («data» .entry))))) r (now (buf .exit)) ⌝ }
 {
     written(edm::command::write_data(buf, Channel(channel), data))
 }
@@ -136,7 +137,7 @@ pub extern "C" fn mirvoncle_write_request(buf: &mut [u8], text: &[u8]) -> usize
 
 #[no_mangle]
 pub extern "C" fn mirvoncle_write_resend(buf: &mut [u8]) -> usize
-    ensures { λ r. ⌜ Sends (now (buf .entry)) (toSend (length (now (buf .entry))) (command 0x56 [])) r (now (buf .exit)) ⌝ }
+    ensures { λ r. ⌜ Sends (now (buf .entry)) (toSend (length (now (buf .entry))) (good (command 0x56 []))) r (now (buf .exit)) ⌝ }
 {
     written(edm::command::write_resend(buf))
 }

@@ -8,8 +8,8 @@ use borrow.Author.Tests.{eqb-true, eqb-false}
 use lib.Dec.{eqb}
 use Rattle.text.specs.Bytes.{same}
 use Rattle.text.proofs.Bools.{and-left, and-right}
-use Rattle.at.specs.Event.{Row, nameOf, Outcome, event}
-use Rattle.at.specs.Line.{hit}
+use Rattle.at.specs.Refusal.{good}
+use Rattle.at.specs.Event.{Row, nameOf, Event, event}
 use Rattle.at.specs.Parts.{valueOf, valuesOf, rowNo, withRow, partOf, Apart}
 use Rattle.at.specs.declared.parts.Value.{Value}
 use Rattle.at.specs.declared.parts.Value.the-variants as value
@@ -30,7 +30,7 @@ unfoldable pub firsts : List Row → ℕ → List Row → Bool
 firsts rows i [] = true
 firsts rows i (r ∷ rs) = eqb (numberOf rows (nameOf r)) i && firsts rows (suc i) rs
 
-numbered : (rows : List Row) (k : ℕ) (rs : List Row) (i : ℕ) (r : Row) → firsts rows k rs ≡ true → rowNo rs i ≡ hit r → numberOf rows (nameOf r) ≡ k + i
+numbered : (rows : List Row) (k : ℕ) (rs : List Row) (i : ℕ) (r : Row) → firsts rows k rs ≡ true → rowNo rs i ≡ good r → numberOf rows (nameOf r) ≡ k + i
 unfolding rowNo firsts
 numbered rows k [] i r t e = let z : _≡_ {A = ℕ} 0 1 = cc in absurd (eqb-false 0 1 refl z)
 numbered rows k (q ∷ rs) zero r t e =
@@ -42,16 +42,16 @@ numbered rows k (q ∷ rs) (suc i) r t e =
     numbered rows (suc k) rs i r (and-right (eqb (numberOf rows (nameOf q)) k) (firsts rows (suc k) rs) t) e ∙ omega arith
 
 -- the row and the values of parts are those of their event
-taken : (rows : List Row) (o : Outcome) (p : Parts) → Apart rows o p → (r : Row) × (rowNo rows (p .row) ≡ hit r) × (event r (valuesOf p) ≡ o)
-taken rows o p a =
+taken : (rows : List Row) (e : Event) (p : Parts) → Apart rows e p → (r : Row) × (rowNo rows (p .row) ≡ good r) × (good (event r (valuesOf p)) ≡ good e)
+taken rows e p a =
     let q = row-listed rows (p .row) (a .listed) in
     (q .0, q .1, ap (λ h. withRow h (valuesOf p)) (sym (q .1)) ∙ a .whole)
 
-pub one-parts : (rows : List Row) → firsts rows 0 rows ≡ true → (o : Outcome) (p q : Parts) → Apart rows o p → Apart rows o q → p ≡ q
-one-parts rows t o p q a b =
-    let x = taken rows o p a in
-    let y = taken rows o q b in
-    let e : event (x .0) (valuesOf p) ≡ event (y .0) (valuesOf q) = x .2 ∙ sym (y .2) in
+pub one-parts : (rows : List Row) → firsts rows 0 rows ≡ true → (e : Event) (p q : Parts) → Apart rows e p → Apart rows e q → p ≡ q
+one-parts rows t e p q a b =
+    let x = taken rows e p a in
+    let y = taken rows e q b in
+    let f : good (event (x .0) (valuesOf p)) ≡ good (event (y .0) (valuesOf q)) = x .2 ∙ sym (y .2) in
     let r : x .0 ≡ y .0 = cc in
     let v : valuesOf p ≡ valuesOf q = cc in
     let i = numbered rows 0 rows (p .row) (x .0) t (x .1) in

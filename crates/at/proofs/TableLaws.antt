@@ -13,12 +13,12 @@ use lib.Seq.{drop-cons, drop-drop, drop-nil, getD-drop, take-at, drop-at, take-t
 use Rattle.text.specs.Bytes.{bytes, same, part}
 use Rattle.text.specs.Field.{Field as Part}
 use Rattle.text.proofs.Bools.{and-left, and-right}
-use Rattle.at.specs.Event.{Kind, Row, nameOf, kindsOf as rowKinds, Read, values, refused, outcome, takeKinds, readRow}
-use Rattle.at.specs.Line.{hit, miss, readHit}
-use Rattle.at.specs.Refusal.{refusalNo}
-use Rattle.at.specs.Table.{lettersOf, filled, spelledRow, spelled, roomy, Tabled, nameAt, lettersAt}
+use Rattle.at.specs.Event.{Kind, Row, nameOf, kindsOf as rowKinds, Read, values, withValues, takeKinds, readRow}
+use Rattle.at.specs.Line.{readNamed}
+use Rattle.at.specs.Refusal.{OrRefused, good, refused, refusalNo}
+use Rattle.at.specs.Table.{lettersOf, filled, spelledRow, spelled, nameAt, lettersAt}
 use Rattle.at.specs.Parts.{rowNo}
-use Rattle.at.specs.Steps.{kindsIn, kindsOf, Legible, lettersIn, valuesOf, withoutRest, stopped, Took, withFields, orStopped, outcomeBy}
+use Rattle.at.specs.Steps.{roomy, Tabled, kindsIn, kindsOf, Legible, lettersIn, valuesOf, withoutRest, stopped, Took, withFields, orStopped, outcomeBy}
 use Rattle.at.specs.declared.AtPacketError.{AtPacketError}
 use Rattle.at.specs.declared.table.Kinds.{Kinds}
 use Rattle.at.specs.declared.field.Stop.{Stop}
@@ -56,13 +56,13 @@ rest-spelled (r ∷ rs) (suc i) =
     rw (e, ← drop-drop (i * 20) 20 (spelledRow r ++ spelled rs), drop-at (spelledRow r) (spelled rs) 20 (row-length r)) (rest-spelled rs i)
 
 -- the row with a number, and the rows from it on
-pub no-row : (rows : List Row) (i : ℕ) → length rows ≤ i → rowNo rows i ≡ miss
+pub no-row : (rows : List Row) (i : ℕ) → length rows ≤ i → rowNo rows i ≡ refused 16
 unfolding rowNo
 no-row [] i h = refl
 no-row (r ∷ rs) zero h = absurd (not-suc-le-zero h)
 no-row (r ∷ rs) (suc i) h = no-row rs i (le-of-suc-le-suc h)
 
-pub row-listed : (rows : List Row) (i : ℕ) → i < length rows → (r : Row) × (rowNo rows i ≡ hit r) × (drop i rows ≡ r ∷ drop (suc i) rows)
+pub row-listed : (rows : List Row) (i : ℕ) → i < length rows → (r : Row) × (rowNo rows i ≡ good r) × (drop i rows ≡ r ∷ drop (suc i) rows)
 unfolding rowNo
 row-listed [] i h = absurd (not-suc-le-zero h)
 row-listed (r ∷ rs) zero h = (r, refl, refl)
@@ -87,7 +87,7 @@ pub record Stands (s : List ℕ) (i : ℕ) (r : Row) : Type 0 where
   pub name : part s (i * 20 + 2) (length (nameOf r)) ≡ nameOf r
   pub letters : take 7 (drop (i * 20 + 13) s) ≡ filled 7 (lettersOf r)
 
-rooms : (rows : List Row) (i : ℕ) (r : Row) → roomy rows ≡ true → rowNo rows i ≡ hit r → (length (nameOf r) ≤ 11) × (length (lettersOf r) ≤ 7)
+rooms : (rows : List Row) (i : ℕ) (r : Row) → roomy rows ≡ true → rowNo rows i ≡ good r → (length (nameOf r) ≤ 11) × (length (lettersOf r) ≤ 7)
 unfolding rowNo roomy
 rooms [] i r t e = let z : _≡_ {A = ℕ} 0 1 = cc in absurd (eqb-false 0 1 refl z)
 rooms (q ∷ rs) zero r t e =
@@ -113,7 +113,7 @@ module _ (s : List ℕ) (i : ℕ) (r : Row) (t : List ℕ) (e : drop (i * 20) s 
   first-two : (k : ℕ) → getD s (i * 20 + k) 0 ≡ getD (spelledRow r ++ t) k 0
   first-two k = sym (getD-drop (i * 20) s k 0) ∙ ap (λ (l : List ℕ). getD l k 0) e
 
-pub stands : (rows : List Row) (s : List ℕ) (i : ℕ) → Tabled rows s → i < length rows → (r : Row) × (rowNo rows i ≡ hit r) × (drop i rows ≡ r ∷ drop (suc i) rows) × Stands s i r
+pub stands : (rows : List Row) (s : List ℕ) (i : ℕ) → Tabled rows s → i < length rows → (r : Row) × (rowNo rows i ≡ good r) × (drop i rows ≡ r ∷ drop (suc i) rows) × Stands s i r
 unfolding spelled part
 stands rows s i t h =
     let q = row-listed rows i h in
@@ -144,7 +144,7 @@ pub letters-taken : (r : Row) → length (lettersOf r) ≤ 7 → take (length (l
 letters-taken r h = filled-front 7 (lettersOf r) h
 
 -- the name and the letters that are handed out are the row's
-pub row-texts : (rows : List Row) (s : List ℕ) (i : ℕ) → Tabled rows s → i < length rows → (r : Row) × (rowNo rows i ≡ hit r) × (nameAt s i ≡ nameOf r) × (lettersAt s i ≡ lettersOf r)
+pub row-texts : (rows : List Row) (s : List ℕ) (i : ℕ) → Tabled rows s → i < length rows → (r : Row) × (rowNo rows i ≡ good r) × (nameAt s i ≡ nameOf r) × (lettersAt s i ≡ lettersOf r)
 unfolding part
 row-texts rows s i t h =
     let q = stands rows s i t h in
@@ -176,14 +176,14 @@ module _ (s : List ℕ) (k : ℕ) (h : k + 7 ≤ length s) where
 cons-inj : {A : Type 0} {x y : A} {xs ys : List A} → x ∷ xs ≡ y ∷ ys → (x ≡ y) × (xs ≡ ys)
 cons-inj e = (cc, cc)
 
-legible-row : (rows : List Row) (i : ℕ) (r : Row) → Legible rows → rowNo rows i ≡ hit r → kindsIn (lettersOf r) ≡ rowKinds r
+legible-row : (rows : List Row) (i : ℕ) (r : Row) → Legible rows → rowNo rows i ≡ good r → kindsIn (lettersOf r) ≡ rowKinds r
 unfolding rowNo
 legible-row [] i r l e = let z : _≡_ {A = ℕ} 0 1 = cc in absurd (eqb-false 0 1 refl z)
 legible-row (q ∷ rs) zero r l e = let f : q ≡ r = cc in rw f at (cons-inj l .0)
 legible-row (q ∷ rs) (suc i) r l e = legible-row rs i r (cons-inj l .1) e
 
 -- what was taken for a row
-module _ (row : ℕ) (ks : List Kind) (r : Read) (t : Taken) where
+module _ (row : ℕ) (ks : List Kind) (r : OrRefused Read) (t : Taken) where
   pub took-refused : (e : AtPacketError) → t .stop ≡ stop.Refused e → r ≡ refused (refusalNo e) → Took row ks r t
   took-refused e p q = record { same-row = λ n. no n; same-read = rw (p, q) }
     where
@@ -191,19 +191,19 @@ module _ (row : ℕ) (ks : List Kind) (r : Read) (t : Taken) where
       no n = let z : _≡_ {A = ℕ} 0 1 = cc in absurd (eqb-false 0 1 refl z)
 
 -- the event of a row, from what was taken for it
-took-outcome : (rows : List Row) (row : ℕ) (q : Row) (r : Read) (t : Taken) → rowNo rows row ≡ hit q → Took row (rowKinds q) r t → outcomeBy rows t ≡ outcome q r
+took-outcome : (rows : List Row) (row : ℕ) (q : Row) (r : OrRefused Read) (t : Taken) → rowNo rows row ≡ good q → Took row (rowKinds q) r t → outcomeBy rows t ≡ withValues q r
 took-outcome rows row q r t e k = go (t .stop) r (k .same-row) (k .same-read)
   where
-    go : (p : Stop) (r : Read) → (p ≡ stop.Nowhere → t .row ≡ row) → stopped (valuesOf (rowKinds q) 0 (t .fields)) p ≡ withoutRest r
-        → orStopped (withFields (rowNo rows (t .row)) (t .fields)) p ≡ outcome q r
-    go stop.Nowhere (values vs fs) h s = let v : valuesOf (rowKinds q) 0 (t .fields) ≡ vs = cc in rw (h refl, e, v)
+    go : (p : Stop) (r : OrRefused Read) → (p ≡ stop.Nowhere → t .row ≡ row) → stopped (valuesOf (rowKinds q) 0 (t .fields)) p ≡ withoutRest r
+        → orStopped (withFields (rowNo rows (t .row)) (t .fields)) p ≡ withValues q r
+    go stop.Nowhere (good (values vs fs)) h s = let v : valuesOf (rowKinds q) 0 (t .fields) ≡ vs = cc in rw (h refl, e, v)
     go stop.Nowhere (refused n) h s = let z : _≡_ {A = ℕ} 0 1 = cc in absurd (eqb-false 0 1 refl z)
-    go (stop.Refused x) (values vs fs) h s = let z : _≡_ {A = ℕ} 0 1 = cc in absurd (eqb-false 0 1 refl z)
+    go (stop.Refused x) (good (values vs fs)) h s = let z : _≡_ {A = ℕ} 0 1 = cc in absurd (eqb-false 0 1 refl z)
     go (stop.Refused x) (refused n) h s = let m : refusalNo x ≡ n = cc in rw m
 
 -- the fields taken by the letters of a row are those that the definition reads
 pub outcome-read : (rows : List Row) (row : ℕ) (k : Kinds) (fs : List Part) (t : Taken) → row < length rows → Legible rows
-    → take (k .count) (k .letters) ≡ lettersIn (rowNo rows row) → Took row (kindsOf k) (takeKinds (kindsOf k) fs) t → outcomeBy rows t ≡ readHit (rowNo rows row) fs
+    → take (k .count) (k .letters) ≡ lettersIn (rowNo rows row) → Took row (kindsOf k) (takeKinds (kindsOf k) fs) t → outcomeBy rows t ≡ readNamed (rowNo rows row) fs
 unfolding readRow
 outcome-read rows row k fs t h l m took =
     let q = row-listed rows row h in

@@ -11,7 +11,8 @@ use Rattle.text.specs.Bytes.{part}
 use Rattle.text.specs.Field.{Field as Part, left, nextField}
 use Rattle.text.specs.declared.field.Fields.{Fields}
 use Rattle.text.specs.declared.field.Next.the-variants as next
-use Rattle.at.specs.Event.{Value, good, bad, readField, Read, values, refused, prepend, takeKinds}
+use Rattle.at.specs.Refusal.{OrRefused, good, refused}
+use Rattle.at.specs.Event.{Value, readField, Read, values, prepend, takeKinds}
 use Rattle.at.specs.Steps.{kindOf, kindsIn, noField, valueOf, valuesOf, withoutRest}
 use Rattle.at.specs.declared.field.Field.{Field}
 use Rattle.at.proofs.FieldLaws.{no-field, some-field}
@@ -21,11 +22,11 @@ pub kept : (w n : ℕ) → n < 2 ^ w → n % 2 ^ w ≡ n
 kept w n h = mod-eq-of-lt h
 
 -- values in front of what is read after them
-abbrev pub ahead : List Value → Read → Read
+abbrev pub ahead : List Value → OrRefused Read → OrRefused Read
 ahead [] r = r
 ahead (v ∷ vs) r = prepend v (ahead vs r)
 
-ahead-snoc : (vs : List Value) (v : Value) (r : Read) → ahead (vs ++ v ∷ []) r ≡ ahead vs (prepend v r)
+ahead-snoc : (vs : List Value) (v : Value) (r : OrRefused Read) → ahead (vs ++ v ∷ []) r ≡ ahead vs (prepend v r)
 ahead-snoc [] v r = refl
 ahead-snoc (u ∷ vs) v r = ap (prepend u) (ahead-snoc vs v r)
 
@@ -33,7 +34,7 @@ pub ahead-refused : (vs : List Value) (n : ℕ) → ahead vs (refused n) ≡ ref
 ahead-refused [] n = refl
 ahead-refused (v ∷ vs) n = rw (ahead-refused vs n)
 
-ahead-values : (vs : List Value) (fs : List Part) → ahead vs (values [] fs) ≡ values vs fs
+ahead-values : (vs : List Value) (fs : List Part) → ahead vs (good (values [] fs)) ≡ good (values vs fs)
 ahead-values [] fs = refl
 ahead-values (v ∷ vs) fs = rw (ahead-values vs fs)
 
@@ -63,7 +64,7 @@ module _ (ks : List ℕ) (i : ℕ) (s : List ℕ) (w : Fields) (h : i < length k
   take-missing e = rw (drop-cons ks i 0 h, no-field (kindOf (getD ks i 0)) s w e)
 
   module _ (start len : ℕ) (rest : Fields) (e : nextField s w ≡ next.Field start len rest) where
-    pub take-refused : (n : ℕ) → readField (kindOf (getD ks i 0)) start (part s start len) ≡ bad n → takeKinds (kindsIn (drop i ks)) (left s w) ≡ refused n
+    pub take-refused : (n : ℕ) → readField (kindOf (getD ks i 0)) start (part s start len) ≡ refused n → takeKinds (kindsIn (drop i ks)) (left s w) ≡ refused n
     unfolding takeKinds
     take-refused n r = rw (drop-cons ks i 0 h, some-field (kindOf (getD ks i 0)) s w e, r)
 
@@ -80,6 +81,6 @@ module _ (ks : List ℕ) (i : ℕ) (s : List ℕ) (w : Fields) (h : i < length k
         (sym (ahead-snoc (valuesOf (kindsIn (take i ks)) 0 fs) (valueOf (kindOf (getD ks i 0)) f) (takeKinds (kindsIn (drop (suc i) ks)) (left s rest))))
 
 pub all-taken : (ks : List ℕ) (i : ℕ) (fs : List Field) (ps : List Part) → length ks ≤ i
-    → withoutRest (ahead (valuesOf (kindsIn (take i ks)) 0 fs) (takeKinds (kindsIn (drop i ks)) ps)) ≡ values (valuesOf (kindsIn ks) 0 fs) []
+    → withoutRest (ahead (valuesOf (kindsIn (take i ks)) 0 fs) (takeKinds (kindsIn (drop i ks)) ps)) ≡ good (values (valuesOf (kindsIn ks) 0 fs) [])
 unfolding takeKinds
 all-taken ks i fs ps h = rw (take-all i ks h, drop-of-length-le ks h, ahead-values (valuesOf (kindsIn ks) 0 fs) ps)

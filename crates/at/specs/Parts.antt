@@ -3,8 +3,8 @@ use Prim.Native.Nat.{ℕ, zero, suc, _<_}
 use mathlib.Core.Path.{_≡_}
 use mathlib.Core.List.{List, [], _∷_}
 use lib.ListN.{length, take, getD}
-use Rattle.at.specs.Event.{Row, Value, num, place, at, Outcome, event, refusal}
-use Rattle.at.specs.Line.{Hit, hit, miss}
+use Rattle.at.specs.Refusal.{OrRefused, good, refused}
+use Rattle.at.specs.Event.{Row, Value, num, place, at, Event, event}
 use Rattle.at.specs.declared.parts.Value as value
 use Rattle.at.specs.declared.parts.Parts.{Parts}
 
@@ -18,19 +18,19 @@ valuesOf p =
     take (p .count)
     (valueOf (p .a) ∷ valueOf (p .b) ∷ valueOf (p .c) ∷ valueOf (p .d) ∷ valueOf (p .e) ∷ valueOf (p .f) ∷ valueOf (p .g) ∷ [])
 
--- the row with a number, counted from 0
-unfoldable pub rowNo : List Row → ℕ → Hit
-rowNo [] i = miss
-rowNo (r ∷ rs) zero = hit r
+-- the row with a number, counted from 0; a number that no row has is no event (16)
+unfoldable pub rowNo : List Row → ℕ → OrRefused Row
+rowNo [] i = refused 16
+rowNo (r ∷ rs) zero = good r
 rowNo (r ∷ rs) (suc i) = rowNo rs i
 
--- the event of a row and its values; a number that no row has is no event
-abbrev pub withRow : Hit → List Value → Outcome
-withRow (hit r) vs = event r vs
-withRow miss vs = refusal 16
+-- the event of a row and its values
+abbrev pub withRow : OrRefused Row → List Value → OrRefused Event
+withRow (good r) vs = good (event r vs)
+withRow (refused n) vs = refused n
 
 -- the event that these parts are of
-abbrev pub together : List Row → Parts → Outcome
+abbrev pub together : List Row → Parts → OrRefused Event
 together rows p = withRow (rowNo rows (p .row)) (valuesOf p)
 
 -- the other way: up to seven values in parts, where those that are not used are the number 0
@@ -56,7 +56,7 @@ partsOf i vs =
     }
 
 -- an event in parts, by a table: its row is in the table, the parts together are the event, and they hold nothing else
-pub record Apart (rows : List Row) (o : Outcome) (p : Parts) : Type 0 where
+pub record Apart (rows : List Row) (e : Event) (p : Parts) : Type 0 where
   pub listed : p .row < length rows
-  pub whole : together rows p ≡ o
+  pub whole : together rows p ≡ good e
   pub tidy : p ≡ partsOf (p .row) (valuesOf p)

@@ -3,15 +3,15 @@ use Prim.Native.Nat.{ℕ, suc, _%_, _^_, _≤_, _<_}
 use Prim.Native.Char.{code}
 use mathlib.Core.Path.{_≡_}
 use mathlib.Core.List.{List, [], _∷_, map}
-use mathlib.Core.Bool.{cond}
-use lib.Dec.{eqb}
+use mathlib.Core.Bool.{Bool, true, cond, _&&_}
+use lib.Dec.{eqb, leb}
 use lib.ListN.{length, take, drop, getD}
-use Rattle.at.specs.Refusal.{refusalNo}
-use Rattle.at.specs.Event.{Kind, bits, text, ipType, protocol, reason, Row, kindsOf as rowKinds, Value, num, place, at, Outcome, event, refusal, One, good, bad, Read, values, refused}
-use Rattle.at.specs.Line.{Hit, hit, miss, Framed, body, broken}
-use Rattle.at.specs.Table.{lettersOf, Tabled}
+use Rattle.at.specs.Refusal.{OrRefused, good, refused, refusalNo}
+use Rattle.at.specs.Event.{Kind, bits, text, ipType, protocol, reason, Row, nameOf, kindsOf as rowKinds, Value, num, place, at, Event, event, Read, values}
+use Rattle.at.specs.Line.{Body, body}
+use Rattle.at.specs.Table.{lettersOf, spelled}
 use Rattle.at.specs.Parts.{rowNo}
-use Rattle.at.specs.Binary.{Marked, markedAt, unmarked, Data, dataAt, noData}
+use Rattle.at.specs.Binary.{Data, dataAt}
 use Rattle.at.specs.W26 as w26
 use Rattle.at.specs.declared.binary.Marked as mark
 use Rattle.at.specs.declared.binary.Data as data·
@@ -55,39 +55,39 @@ unfoldable pub valuesOf : List Kind → ℕ → List Field → List Value
 valuesOf [] i fs = []
 valuesOf (k ∷ ks) i fs = valueOf k (getD fs i noField) ∷ valuesOf ks (suc i) fs
 
-abbrev pub oneOf : Kind → answer.FieldAnswer → One
+abbrev pub oneOf : Kind → answer.FieldAnswer → OrRefused Value
 oneOf k (answer.the-variants.Got f) = good (valueOf k f)
-oneOf k (answer.the-variants.Refused e) = bad (refusalNo e)
+oneOf k (answer.the-variants.Refused e) = refused (refusalNo e)
 
 -- what a row's fields are read as: the values that stand in the array, with any fields after them, or what stopped it
-abbrev pub withoutRest : Read → Read
-withoutRest (values vs fs) = values vs []
+abbrev pub withoutRest : OrRefused Read → OrRefused Read
+withoutRest (good (values vs fs)) = good (values vs [])
 withoutRest (refused n) = refused n
 
-abbrev pub stopped : List Value → stop.Stop → Read
-stopped vs stop.the-variants.Nowhere = values vs []
+abbrev pub stopped : List Value → stop.Stop → OrRefused Read
+stopped vs stop.the-variants.Nowhere = good (values vs [])
 stopped vs (stop.the-variants.Refused e) = refused (refusalNo e)
 
-pub record Took (i : ℕ) (ks : List Kind) (r : Read) (t : Taken) : Type 0 where
+pub record Took (i : ℕ) (ks : List Kind) (r : OrRefused Read) (t : Taken) : Type 0 where
   pub same-row : t .stop ≡ stop.the-variants.Nowhere → t .row ≡ i
   pub same-read : stopped (valuesOf ks 0 (t .fields)) (t .stop) ≡ withoutRest r
 
 -- the framing of a line of s
-abbrev pub framedOf : List ℕ → framed.Framed → Framed
-framedOf s (framed.the-variants.Body start end) = body start (drop start (take end s))
-framedOf s (framed.the-variants.Refused e) = broken (refusalNo e)
+abbrev pub framedOf : List ℕ → framed.Framed → OrRefused Body
+framedOf s (framed.the-variants.Body start end) = good (body start (drop start (take end s)))
+framedOf s (framed.the-variants.Refused e) = refused (refusalNo e)
 
 -- the parts of a binary event
-abbrev pub markedOf : mark.Marked → Marked
-markedOf (mark.the-variants.Behind n) = markedAt n
-markedOf (mark.the-variants.Refused e) = unmarked (refusalNo e)
+abbrev pub markedOf : mark.Marked → OrRefused ℕ
+markedOf (mark.the-variants.After n) = good n
+markedOf (mark.the-variants.Refused e) = refused (refusalNo e)
 
-abbrev pub dataOf : data·.Data → Data
-dataOf (data·.the-variants.Got t) = dataAt (t .start) (t .len)
-dataOf (data·.the-variants.Refused e) = noData (refusalNo e)
+abbrev pub dataOf : data·.Data → OrRefused Data
+dataOf (data·.the-variants.Got t) = good (dataAt (t .start) (t .len))
+dataOf (data·.the-variants.Refused e) = refused (refusalNo e)
 
-abbrev pub addressOf : address.AddressFields → Read
-addressOf (address.the-variants.Got n ip port) = values (num n ∷ at ip ∷ num port ∷ []) []
+abbrev pub addressOf : address.AddressFields → OrRefused Read
+addressOf (address.the-variants.Got n ip port) = good (values (num n ∷ at ip ∷ num port ∷ []) [])
 addressOf (address.the-variants.Refused e) = refused (refusalNo e)
 
 -- the kind that a letter of a row stands for, and those of its letters
@@ -106,6 +106,15 @@ pub record Held (k : Kinds) : Type 0 where
   pub room : length (k .letters) ≡ 7
   pub few : k .count ≤ 7
 
+-- a table whose names and letters have room in a row, and its bytes
+unfoldable pub roomy : List Row → Bool
+roomy [] = true
+roomy (r ∷ rs) = leb (length (nameOf r)) 11 && leb (length (lettersOf r)) 7 && roomy rs
+
+pub record Tabled (rows : List Row) (s : List ℕ) : Type 0 where
+  pub spells : s ≡ spelled rows
+  pub rooms : roomy rows ≡ true
+
 -- the letters of a table say its kinds
 abbrev pub Legible : List Row → Type 0
 Legible rows = map (λ r. kindsIn (lettersOf r)) rows ≡ map rowKinds rows
@@ -115,28 +124,28 @@ abbrev pub SomeTable : List ℕ → Type 0
 SomeTable s = (rows : List Row) × Tabled rows s
 
 -- the row that a search finds, by its number
-abbrev pub Finds : List Row → Hit → named.Named → Type 0
+abbrev pub Finds : List Row → OrRefused Row → named.Named → Type 0
 Finds rows h (named.the-variants.Row i) = (i < length rows) × (h ≡ rowNo rows i)
-Finds rows h named.the-variants.Nothing = h ≡ miss
+Finds rows h named.the-variants.Nothing = h ≡ refused 16
 
 -- the letters of a row, and none where there is no row
-abbrev pub lettersIn : Hit → List ℕ
-lettersIn (hit r) = lettersOf r
-lettersIn miss = []
+abbrev pub lettersIn : OrRefused Row → List ℕ
+lettersIn (good r) = lettersOf r
+lettersIn (refused n) = []
 
--- the event that was read, by the table's row and its fields; a number that no row has is no event
-abbrev pub withFields : Hit → List Field → Outcome
-withFields (hit r) fs = event r (valuesOf (rowKinds r) 0 fs)
-withFields miss fs = refusal 16
+-- the event that was read, by the table's row and its fields
+abbrev pub withFields : OrRefused Row → List Field → OrRefused Event
+withFields (good r) fs = good (event r (valuesOf (rowKinds r) 0 fs))
+withFields (refused n) fs = refused n
 
-abbrev pub eventBy : List Row → Taken → Outcome
+abbrev pub eventBy : List Row → Taken → OrRefused Event
 eventBy rows t = withFields (rowNo rows (t .row)) (t .fields)
 
-abbrev pub orStopped : Outcome → stop.Stop → Outcome
+abbrev pub orStopped : OrRefused Event → stop.Stop → OrRefused Event
 orStopped o stop.the-variants.Nowhere = o
-orStopped o (stop.the-variants.Refused e) = refusal (refusalNo e)
+orStopped o (stop.the-variants.Refused e) = refused (refusalNo e)
 
-abbrev pub outcomeBy : List Row → Taken → Outcome
+abbrev pub outcomeBy : List Row → Taken → OrRefused Event
 outcomeBy rows t = orStopped (eventBy rows t) (t .stop)
 
 -- parts with at most three values

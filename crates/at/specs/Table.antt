@@ -3,7 +3,6 @@
 use Prim.Native.Nat.{ℕ, _+_, _*_}
 use Prim.Native.Char.{code}
 use mathlib.Core.List.{List, [], _∷_, _++_, map}
-use mathlib.Core.Path.{_≡_}
 use mathlib.Core.Bool.{Bool, true, cond, _&&_}
 use lib.Dec.{eqb, leb}
 use lib.ListN.{length, take, getD}
@@ -32,15 +31,6 @@ spelledRow r = length (nameOf r) ∷ length (lettersOf r) ∷ (filled 11 (nameOf
 unfoldable pub spelled : List Row → List ℕ
 spelled [] = []
 spelled (r ∷ rs) = spelledRow r ++ spelled rs
-
--- a table whose names and letters have room in a row, and its bytes
-unfoldable pub roomy : List Row → Bool
-roomy [] = true
-roomy (r ∷ rs) = leb (length (nameOf r)) 11 && leb (length (lettersOf r)) 7 && roomy rs
-
-pub record Tabled (rows : List Row) (s : List ℕ) : Type 0 where
-  pub spells : s ≡ spelled rows
-  pub rooms : roomy rows ≡ true
 
 -- of any bytes: the name and the letters of the row with a number, counted from 0
 abbrev pub nameAt : List ℕ → ℕ → List ℕ

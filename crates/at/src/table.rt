@@ -8,9 +8,9 @@ ghost use lib.ListN.{length, take};
 ghost use Rattle.text.specs.Bytes.{same as sameBytes, part as partOf};
 ghost use Rattle.at.specs.Event.{Row};
 ghost use Rattle.at.specs.Line.{search};
-ghost use Rattle.at.specs.Table.{Tabled, nameAt, lettersAt};
+ghost use Rattle.at.specs.Table.{nameAt, lettersAt};
 ghost use Rattle.at.specs.Parts.{rowNo};
-ghost use Rattle.at.specs.Steps.{SomeTable, Finds, Held, lettersIn};
+ghost use Rattle.at.specs.Steps.{Tabled, SomeTable, Finds, Held, lettersIn};
 
 fn wide(x: u8) -> usize
     ensures { λ r. ⌜ (r ≡ x) × (r < 256) ⌝ }
@@ -48,7 +48,7 @@ pub fn kinds_at(table: &[u8], row: usize) -> &[u8]
     }
 }
 
-// Whether a row has a name. The length tells most rows apart, and the last letters most others, so they are looked at first.
+// Whether a row has a name. Most rows differ in length, and most others in the last letters, so they are looked at first.
 fn has_name(table: &[u8], start: usize, len: usize, name: &[u8]) -> bool
     requires { ⌜ start + len ≤ length (now table) ⌝ }
     ensures { λ r. ⌜ r ≡ sameBytes (now (name .entry)) (partOf (now (table .entry)) start len) ⌝ }

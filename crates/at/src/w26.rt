@@ -23,6 +23,7 @@ use text::bytes::part;
 ghost use mathlib.Core.Path.{_≡_};
 ghost use Prim.Native.Nat.{_<_};
 ghost use lib.ListN.{length, drop};
+ghost use Rattle.at.specs.Refusal.{good};
 ghost use Rattle.at.specs.Event.{kindsOf, event, upTo};
 ghost use Rattle.at.specs.Line.{readLine, readText};
 ghost use Rattle.at.specs.W26.{table, UUDPC, w26, eventOf, profileNo, reasonNo, typeNo, shown};
@@ -198,7 +199,7 @@ fn peer_connected(fields: [Field; 7]) -> ATEvent
 
 // The event of a row, from the fields that were taken for it. No row comes to the last arm.
 fn event_of(t: Taken) -> ATEvent
-    ensures { λ r. ⌜ (t .row < length table → eventOf r ≡ eventBy table t) ⌝ }
+    ensures { λ r. ⌜ (t .row < length table → good (eventOf r) ≡ eventBy table t) ⌝ }
 {
     let row = t.row;
     let fields = t.fields;

@@ -35,6 +35,7 @@ use text::number::read8;
 ghost use mathlib.Core.Path.{_≡_};
 ghost use Prim.Native.Nat.{_<_};
 ghost use lib.ListN.{length, drop};
+ghost use Rattle.at.specs.Refusal.{good};
 ghost use Rattle.at.specs.Event.{upTo};
 ghost use Rattle.at.specs.Line.{readLine, readText};
 ghost use Rattle.at.specs.Binary.{readBody, tried, tryRows};
@@ -156,7 +157,7 @@ const TEXT: usize = 260;
 
 // The event of a row of text, from the fields that were taken for it. No row comes to the last arm.
 fn event_of(t: Taken) -> ATEvent
-    ensures { λ r. ⌜ (t .row < length table → eventOf r ≡ eventBy table t) ⌝ }
+    ensures { λ r. ⌜ (t .row < length table → good (eventOf r) ≡ eventBy table t) ⌝ }
 {
     let row = t.row;
     let fields = t.fields;
@@ -320,7 +321,7 @@ fn socket_data_from(s: &[u8], start: usize) -> BinaryAnswer
 {
     match find_marker(s, start) {
         Marked::Refused(e) => BinaryAnswer::Refused(e),
-        Marked::Behind(len) => match address_fields(part(s, 0, start + len), start) {
+        Marked::After(len) => match address_fields(part(s, 0, start + len), start) {
             AddressFields::Refused(e) => BinaryAnswer::Refused(e),
             AddressFields::Got(n, remote_ip, remote_port) => match data_at(s, start + len + 1) {
                 Data::Refused(e) => BinaryAnswer::Refused(e),

@@ -12,7 +12,9 @@ use lib.Seq.{take-at}
 use Rattle.text.proofs.OneOutcome.{One}
 use Rattle.at.specs.declared.Text.{Text}
 use Rattle.edm.specs.Refusal.{refusalNo}
-use Rattle.edm.specs.Command.{frame, Command, command, inSource, requestOf, commandOf, Written, bytes, refused, toWrite, Outcome, wrote, refusal, outcome, after, shown}
+use Rattle.at.specs.Written.{answerTo, after}
+use Rattle.at.specs.Refusal.{OrRefused, good, refused}
+use Rattle.edm.specs.Command.{frame, Command, command, inSource, requestOf, commandOf, toWrite, shown}
 use Rattle.edm.specs.declared.Channel.{Channel}
 use Rattle.edm.specs.declared.EdmPacketError.{EdmPacketError}
 use Rattle.edm.specs.declared.EdmPacketError.the-variants as error
@@ -27,10 +29,10 @@ use Rattle.edm.proofs.command.write_request as write-request
 use Rattle.edm.proofs.command.write_resend as write-resend
 use Rattle.edm.proofs.command.write as write
 
--- `shown` tells any two answers apart: it has a left inverse
-abbrev unshown : Outcome → WriteAnswer
-unshown (wrote n) = answer.Wrote n
-unshown (refusal n) = answer.Refused (errorOf n)
+-- `shown` distinguishes any two answers: it has a left inverse
+abbrev unshown : OrRefused ℕ → WriteAnswer
+unshown (good n) = answer.Wrote n
+unshown (refused n) = answer.Refused (errorOf n)
 
 back : (r : WriteAnswer) → unshown (shown r) ≡ r
 back (answer.Wrote n) = refl
@@ -52,12 +54,12 @@ one-resend = ((λ κs a x y s t p q. shown-injective x y (p .answers ∙ sym (q 
 pub one-write : One 2 write.Kinds.ps write.Kinds.r write.Reads.Post (λ κs x s. x) × One 2 write.Kinds.ps write.Kinds.r write.Reads.Post (λ κs x s. s .0 .now)
 one-write = ((λ κs a x y s t p q. shown-injective x y (p .answers ∙ sym (q .answers))), λ κs a x y s t p q. p .leaves ∙ sym (q .leaves))
 
-wrote-bytes : (n : ℕ) (w : Written) → wrote n ≡ outcome w → (f : List ℕ) × (w ≡ bytes f) × (n ≡ length f)
-wrote-bytes n (bytes f) e = (f, refl, cc)
+wrote-bytes : (n : ℕ) (w : OrRefused (List ℕ)) → good n ≡ answerTo w → (f : List ℕ) × (w ≡ good f) × (n ≡ length f)
+wrote-bytes n (good f) e = (f, refl, cc)
 wrote-bytes n (refused m) e = let z : _≡_ {A = ℕ} 0 1 = cc in absurd (omega arith)
 
-refused-bytes : (m : ℕ) (b : List ℕ) (w : Written) → refusal m ≡ outcome w → after b w ≡ b
-refused-bytes m b (bytes f) e = let z : _≡_ {A = ℕ} 0 1 = cc in absurd (omega arith)
+refused-bytes : (m : ℕ) (b : List ℕ) (w : OrRefused (List ℕ)) → refused m ≡ answerTo w → after b w ≡ b
+refused-bytes m b (good f) e = let z : _≡_ {A = ℕ} 0 1 = cc in absurd (omega arith)
 refused-bytes m b (refused n) e = refl
 
 first-byte : (id : ℕ) (t b : List ℕ) → getD (frame id t ++ b) 0 0 ≡ 0xAA
@@ -69,20 +71,20 @@ module _ (κs : Lfts 2) (a : Dens κs write.Kinds.ps) (e : AtExit (endedOf 2 wri
   abbrev buf : List ℕ
   buf = a .0 .now
 
-  abbrev toPut : Written
+  abbrev toPut : OrRefused (List ℕ)
   toPut = toWrite (length buf) (a .1 .0 .now) (a .1 .1 .0)
 
   -- a length that is answered is that of the frame to write, which stands in the buffer: a writer invents none
-  pub says-the-length : (n : ℕ) → write.Reads.Post κs a (answer.Wrote n) e → (f : List ℕ) × (toPut ≡ bytes f) × (n ≡ length f) × (e .0 .now ≡ f ++ drop n buf)
+  pub says-the-length : (n : ℕ) → write.Reads.Post κs a (answer.Wrote n) e → (f : List ℕ) × (toPut ≡ good f) × (n ≡ length f) × (e .0 .now ≡ f ++ drop n buf)
   says-the-length n p =
       let w = wrote-bytes n toPut (p .answers) in
       (w .0, w .1, w .2, p .leaves ∙ ap (after buf) (w .1) ∙ ap (λ (k : ℕ). w .0 ++ drop k buf) (sym (w .2)))
 
   -- so the front of the buffer, as long as the answer says, is that frame, and what holds of it (WrittenRead) holds of the bytes that a caller sends
-  pub frame-in-front : (n : ℕ) → write.Reads.Post κs a (answer.Wrote n) e → toPut ≡ bytes (take n (e .0 .now))
+  pub frame-in-front : (n : ℕ) → write.Reads.Post κs a (answer.Wrote n) e → toPut ≡ good (take n (e .0 .now))
   frame-in-front n p =
       let w = says-the-length n p in
-      w .1 ∙ ap bytes (sym (ap (take n) (w .3) ∙ take-at (w .0) (drop n buf) n (sym (w .2))))
+      w .1 ∙ ap good (sym (ap (take n) (w .3) ∙ take-at (w .0) (drop n buf) n (sym (w .2))))
 
   pub length-bounds : (n : ℕ) → write.Reads.Post κs a (answer.Wrote n) e → (6 ≤ n) × (n ≤ 4099) × (n ≤ length buf)
   length-bounds n p =
@@ -106,7 +108,7 @@ module _ (κs : Lfts 2) (a : Dens κs write.Kinds.ps) (e : AtExit (endedOf 2 wri
   refused-changes-nothing x p = p .leaves ∙ refused-bytes (refusalNo x) buf toPut (p .answers)
 
   -- a length is answered only where the source has the place that the command is made of
-  in-place : (n start len : ℕ) (make : List ℕ → Command) → commandOf (a .1 .0 .now) (a .1 .1 .0) ≡ inSource (a .1 .0 .now) start len make
+  in-place : (n start len : ℕ) (make : List ℕ → OrRefused Command) → commandOf (a .1 .0 .now) (a .1 .1 .0) ≡ inSource (a .1 .0 .now) start len make
       → write.Reads.Post κs a (answer.Wrote n) e → start + len ≤ length (a .1 .0 .now)
   in-place n start len make m p =
       let w = says-the-length n p in
@@ -117,7 +119,7 @@ module _ (κs : Lfts 2) (a : Dens κs write.Kinds.ps) (e : AtExit (endedOf 2 wri
   pub past-source-refused : (n : ℕ) (c : Channel) (d : Text) → a .1 .1 .0 ≡ is.DataCommand c d → length (a .1 .0 .now) < d .start + d .len
       → write.Reads.Post κs a (answer.Wrote n) e → ⊥
   past-source-refused n c d r h p =
-      let i = in-place n (d .start) (d .len) (λ t. command 0x36 (c .0 ∷ t)) (ap (commandOf (a .1 .0 .now)) r) p in
+      let i = in-place n (d .start) (d .len) (λ t. good (command 0x36 (c .0 ∷ t))) (ap (commandOf (a .1 .0 .now)) r) p in
       omega arith
 
   pub past-source-refused-request : (n : ℕ) (t : Text) → a .1 .1 .0 ≡ is.ATRequest t → length (a .1 .0 .now) < t .start + t .len
@@ -130,6 +132,6 @@ module _ (κs : Lfts 2) (a : Dens κs write.Kinds.ps) (e : AtExit (endedOf 2 wri
   pub resend-is-written : (x : EdmPacketError) → a .1 .1 .0 ≡ is.ResendConnectEvents → 6 ≤ length buf → write.Reads.Post κs a (answer.Refused x) e → ⊥
   resend-is-written x r h p =
       let k = as-command (length buf) (a .1 .0 .now) (a .1 .1 .0) (ap (commandOf (a .1 .0 .now)) r) in
-      let w = k ∙ takes (length buf) (command 0x56 []) h ∙ within (length buf) 0x56 [] (omega arith) (omega arith) in
+      let w = k ∙ takes (length buf) (good (command 0x56 [])) h ∙ within (length buf) 0x56 [] (omega arith) (omega arith) in
       let z : _≡_ {A = ℕ} 0 1 = cc (p .answers) in
       omega arith

@@ -1,4 +1,4 @@
--- The promise of `frame::read` allows one answer only: `shown` tells any two answers apart. Two wrong readers break it. Assumes nothing.
+-- The promise of `frame::read` allows one answer only: `shown` distinguishes any two answers. Two wrong readers break it. Assumes nothing.
 use Prim.Native.Nat.{ℕ}
 use mathlib.Core.Path.{_≡_, refl, sym, ap, _∙_}
 use mathlib.Core.List.{List, [], _∷_}
@@ -10,18 +10,15 @@ use lib.ListN.{getD}
 use Rattle.text.specs.Bytes.{hex}
 use Rattle.text.proofs.OneOutcome.{One}
 use Rattle.at.specs.Event.{Value, num, place}
-use Rattle.at.specs.Event as event
+use Rattle.at.specs.Refusal.{good}
 use Rattle.at.specs.Response.{Response}
 use Rattle.at.specs.Response as response
-use Rattle.at.specs.W26.{eventOf}
-use Rattle.at.proofs.W26Answers as w26
+use Rattle.at.proofs.Answers.{distinguished}
+use Rattle.at.proofs.W26Answers.{eventIn, event-back}
 use Rattle.at.specs.declared.Text.{Text}
 use Rattle.at.specs.declared.response.ATResponse.{ATResponse}
 use Rattle.at.specs.declared.response.ATResponse.the-variants as said
-use Rattle.at.specs.declared.w26.ATEvent.{ATEvent}
-use Rattle.at.specs.declared.w26.ATEvent.the-variants as ev
-use Rattle.at.specs.declared.w26.EventAnswer.the-variants as eventAnswer
-use Rattle.edm.specs.Packet.{identifiers, carried, Packet, connectEvent, disconnectEvent, dataPacket, dataCommand, atRequest, atResponse, atPacket, resendPacket, startPacket, Outcome, packet, refusal, packetOf, shown}
+use Rattle.edm.specs.Packet.{identifiers, carried, Packet, connectEvent, disconnectEvent, dataPacket, dataCommand, atRequest, atResponse, atPacket, resendPacket, startPacket, packetOf, shown}
 use Rattle.edm.specs.Payload.{readDataEvent}
 use Rattle.edm.specs.Frame.{readFrame}
 use Rattle.edm.specs.declared.Channel.{Channel}
@@ -54,55 +51,20 @@ abbrev responseIn : Response → ATResponse
 responseIn (response.ok p n) = said.Ok (record { start = p; len = n })
 responseIn (response.other p n) = said.Other (record { start = p; len = n })
 responseIn response.error = said.Error
-responseIn (response.refusal n) = said.Error
 
--- the packet that a packet of the definitions was shown from. An event of the AT layer is given: that layer's own law tells its events apart
-abbrev packetIn : ATEvent → Packet → EdmPacket
-packetIn e (connectEvent vs) = is.ConnectEvent (channel vs) (record { protocol = number vs 1; «remote_addr» = text vs 2; «remote_port» = number vs 3; «local_addr» = text vs 4; «local_port» = number vs 5 })
-packetIn e (disconnectEvent vs) = is.DisconnectEvent (channel vs)
-packetIn e (dataPacket vs) = is.DataEvent (channel vs) (text vs 1)
-packetIn e (dataCommand vs) = is.DataCommand (channel vs) (text vs 1)
-packetIn e (atRequest v) = is.ATRequest (textIn v)
-packetIn e (atResponse r) = is.ATResponse (responseIn r)
-packetIn e (atPacket o) = is.ATEvent e
-packetIn e resendPacket = is.ResendConnectEvents
-packetIn e startPacket = is.StartEvent
+-- the packet that a packet of the definitions was shown from
+abbrev packetIn : Packet → EdmPacket
+packetIn (connectEvent vs) = is.ConnectEvent (channel vs) (record { protocol = number vs 1; «remote_addr» = text vs 2; «remote_port» = number vs 3; «local_addr» = text vs 4; «local_port» = number vs 5 })
+packetIn (disconnectEvent vs) = is.DisconnectEvent (channel vs)
+packetIn (dataPacket vs) = is.DataEvent (channel vs) (text vs 1)
+packetIn (dataCommand vs) = is.DataCommand (channel vs) (text vs 1)
+packetIn (atRequest v) = is.ATRequest (textIn v)
+packetIn (atResponse r) = is.ATResponse (responseIn r)
+packetIn (atPacket e) = is.ATEvent (eventIn e)
+packetIn resendPacket = is.ResendConnectEvents
+packetIn startPacket = is.StartEvent
 
--- the event of a packet that has one, and another event for those that have none
-abbrev eventIn : EdmPacket → ATEvent
-eventIn (is.ConnectEvent c e) = ev.EthernetLinkUp
-eventIn (is.DisconnectEvent c) = ev.EthernetLinkUp
-eventIn (is.DataEvent c d) = ev.EthernetLinkUp
-eventIn (is.DataCommand c d) = ev.EthernetLinkUp
-eventIn (is.ATRequest t) = ev.EthernetLinkUp
-eventIn (is.ATResponse r) = ev.EthernetLinkUp
-eventIn (is.ATEvent e) = e
-eventIn is.ResendConnectEvents = ev.EthernetLinkUp
-eventIn is.StartEvent = ev.EthernetLinkUp
-
-abbrev eventShown : Packet → event.Outcome
-eventShown (connectEvent vs) = eventOf ev.EthernetLinkUp
-eventShown (disconnectEvent vs) = eventOf ev.EthernetLinkUp
-eventShown (dataPacket vs) = eventOf ev.EthernetLinkUp
-eventShown (dataCommand vs) = eventOf ev.EthernetLinkUp
-eventShown (atRequest v) = eventOf ev.EthernetLinkUp
-eventShown (atResponse r) = eventOf ev.EthernetLinkUp
-eventShown (atPacket o) = o
-eventShown resendPacket = eventOf ev.EthernetLinkUp
-eventShown startPacket = eventOf ev.EthernetLinkUp
-
-event-shown : (p : EdmPacket) → eventShown (packetOf p) ≡ eventOf (eventIn p)
-event-shown (is.ConnectEvent c e) = refl
-event-shown (is.DisconnectEvent c) = refl
-event-shown (is.DataEvent c d) = refl
-event-shown (is.DataCommand c d) = refl
-event-shown (is.ATRequest t) = refl
-event-shown (is.ATResponse r) = refl
-event-shown (is.ATEvent e) = refl
-event-shown is.ResendConnectEvents = refl
-event-shown is.StartEvent = refl
-
-packet-back : (p : EdmPacket) → packetIn (eventIn p) (packetOf p) ≡ p
+packet-back : (p : EdmPacket) → packetIn (packetOf p) ≡ p
 packet-back (is.ConnectEvent c e) = refl
 packet-back (is.DisconnectEvent c) = refl
 packet-back (is.DataEvent c d) = refl
@@ -111,17 +73,12 @@ packet-back (is.ATRequest t) = refl
 packet-back (is.ATResponse (said.Ok t)) = refl
 packet-back (is.ATResponse said.Error) = refl
 packet-back (is.ATResponse (said.Other t)) = refl
-packet-back (is.ATEvent e) = refl
+packet-back (is.ATEvent e) = ap is.ATEvent (event-back e)
 packet-back is.ResendConnectEvents = refl
 packet-back is.StartEvent = refl
 
-event-injective : (d e : ATEvent) → eventOf d ≡ eventOf e → d ≡ e
-event-injective d e o = let f = w26.shown-injective (eventAnswer.Event d 0) (eventAnswer.Event e 0) (ap (event.upTo 0) o) in cc
-
 packet-injective : (p q : EdmPacket) → packetOf p ≡ packetOf q → p ≡ q
-packet-injective p q e =
-    let same : eventIn p ≡ eventIn q = event-injective (eventIn p) (eventIn q) (sym (event-shown p) ∙ ap eventShown e ∙ event-shown q) in
-    sym (packet-back p) ∙ rw (same, e) (packet-back q)
+packet-injective = distinguished packetOf packetIn packet-back
 
 pub shown-injective : (r q : FrameAnswer) → shown r ≡ shown q → r ≡ q
 shown-injective (answer.Packet p) (answer.Packet q) e = ap answer.Packet (packet-injective p q cc)
@@ -133,11 +90,11 @@ pub one-read : One 1 read.Kinds.ps read.Kinds.r read.Reads.Post (λ κs x s. x)
 one-read κs a x y s t p q = shown-injective x y (p ∙ sym q)
 
 -- two frames, read by computation
-start-read : readFrame (hex "AA 00 02 00 71 55") ≡ packet startPacket
+start-read : readFrame (hex "AA 00 02 00 71 55") ≡ good startPacket
 unfolding readFrame identifiers carried
 start-read = refl
 
-data-read : readFrame (hex "AA 00 04 00 36 03 41 55") ≡ packet (dataPacket (num 3 ∷ place 6 1 ∷ []))
+data-read : readFrame (hex "AA 00 04 00 36 03 41 55") ≡ good (dataPacket (num 3 ∷ place 6 1 ∷ []))
 unfolding readFrame identifiers carried readDataEvent
 data-read = refl
 
@@ -146,13 +103,13 @@ module _ (κs : Lfts 1) (a : Dens κs read.Kinds.ps) (e : AtExit (endedOf 1 read
   -- a reader that refuses everything, with whatever number
   pub refuses-not-all : (d : EdmPacketError) → a .0 .now ≡ hex "AA 00 02 00 71 55" → read.Reads.Post κs a (answer.Refused d) e → ⊥
   refuses-not-all d s p =
-      let q : shown (answer.Refused d) ≡ packet startPacket = (rw s at p) ∙ start-read in
+      let q : shown (answer.Refused d) ≡ good startPacket = (rw s at p) ∙ start-read in
       let z : _≡_ {A = ℕ} 0 1 = cc in
       omega arith
 
   -- a reader that answers StartEvent to everything
   pub starts-not-all : a .0 .now ≡ hex "AA 00 04 00 36 03 41 55" → read.Reads.Post κs a (answer.Packet is.StartEvent) e → ⊥
   starts-not-all s p =
-      let q : shown (answer.Packet is.StartEvent) ≡ packet (dataPacket (num 3 ∷ place 6 1 ∷ [])) = (rw s at p) ∙ data-read in
+      let q : shown (answer.Packet is.StartEvent) ≡ good (dataPacket (num 3 ∷ place 6 1 ∷ [])) = (rw s at p) ∙ data-read in
       let z : _≡_ {A = ℕ} 0 1 = cc in
       omega arith

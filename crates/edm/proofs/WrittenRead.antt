@@ -13,10 +13,11 @@ use Rattle.text.specs.Utf8.{utf8}
 use Rattle.text.proofs.Utf8Joined.{utf8-append, utf8-plain, utf8-nil}
 use Rattle.at.specs.Event.{num, place}
 use Rattle.at.specs.declared.Text.{Text}
-use Rattle.edm.specs.Packet.{identifiers, carried, packet, dataPacket, atRequest, resendPacket}
+use Rattle.at.specs.Refusal.{good}
+use Rattle.edm.specs.Packet.{identifiers, carried, dataPacket, atRequest, resendPacket}
 use Rattle.edm.specs.Payload.{byte, word, readPayload, readDataEvent, readRequest}
 use Rattle.edm.specs.Frame.{delimited, lengthField, payload, readFrame}
-use Rattle.edm.specs.Command.{frame, command, requestOf, bytes, toWrite}
+use Rattle.edm.specs.Command.{frame, command, requestOf, toWrite}
 use Rattle.edm.specs.declared.Channel.{Channel}
 use Rattle.edm.specs.declared.EdmPacket.the-variants as is
 use Rattle.edm.proofs.CommandLaws.{framed, in-source, is-request, part-length}
@@ -48,31 +49,31 @@ module _ (id : ℕ) (t : List ℕ) where
       reads s t id (omega arith) (marked s front refl (omega arith) refl) p (omega arith) (omega arith)
 
 -- the three commands
-pub read-data : (c : ℕ) (d : List ℕ) → length d ≤ 4092 → readFrame (frame 0x36 (c ∷ d)) ≡ packet (dataPacket (num c ∷ place 6 (length d) ∷ []))
+pub read-data : (c : ℕ) (d : List ℕ) → length d ≤ 4092 → readFrame (frame 0x36 (c ∷ d)) ≡ good (dataPacket (num c ∷ place 6 (length d) ∷ []))
 unfolding identifiers carried readDataEvent
 read-data c d h =
     let l : length (c ∷ d) - 1 ≡ length d = omega arith in
     read-frame 0x36 (c ∷ d) (omega arith) ∙ rw (le-ltb (length (c ∷ d)) 1 (omega arith), l)
 
-pub read-request : (t : List ℕ) → length t ≤ 4092 → utf8 t ≡ true → readFrame (frame 0x44 (t ++ 13 ∷ [])) ≡ packet (atRequest (place 5 (length t + 1)))
+pub read-request : (t : List ℕ) → length t ≤ 4092 → utf8 t ≡ true → readFrame (frame 0x44 (t ++ 13 ∷ [])) ≡ good (atRequest (place 5 (length t + 1)))
 unfolding identifiers carried readRequest
 read-request t h u =
     let l = length-append t (13 ∷ []) in
     let v = utf8-append t (13 ∷ []) u (utf8-plain 13 [] (omega arith) utf8-nil) in
     read-frame 0x44 (t ++ 13 ∷ []) (omega arith) ∙ rw (v, l)
 
-pub read-resend : readFrame (frame 0x56 []) ≡ packet resendPacket
+pub read-resend : readFrame (frame 0x56 []) ≡ good resendPacket
 unfolding identifiers carried
 read-resend = read-frame 0x56 [] (omega arith)
 
 -- and the same of the bytes that are written for a packet: what stands at the place that is read is what was given, a request's with its CR
 module _ (room : ℕ) (src f : List ℕ) where
-  pub data-read-back : (c : Channel) (d : Text) → toWrite room src (is.DataCommand c d) ≡ bytes f
-      → (readFrame f ≡ packet (dataPacket (num (c .0) ∷ place 6 (d .len) ∷ []))) × (part f 6 (d .len) ≡ part src (d .start) (d .len))
+  pub data-read-back : (c : Channel) (d : Text) → toWrite room src (is.DataCommand c d) ≡ good f
+      → (readFrame f ≡ good (dataPacket (num (c .0) ∷ place 6 (d .len) ∷ []))) × (part f 6 (d .len) ≡ part src (d .start) (d .len))
   unfolding frame part
   data-read-back c d e =
       let w = framed room src (is.DataCommand c d) f e in
-      let s = in-source src (d .start) (d .len) (λ t. command 0x36 (c .0 ∷ t)) (w .id) (w .payload) (w .commands) in
+      let s = in-source src (d .start) (d .len) (λ t. good (command 0x36 (c .0 ∷ t))) (w .id) (w .payload) (w .commands) in
       let t = part src (d .start) (d .len) in
       let l = part-length src (d .start) (d .len) (s .0) in
       let g : f ≡ frame 0x36 (c .0 ∷ t) = cc in
@@ -81,8 +82,8 @@ module _ (room : ℕ) (src f : List ℕ) where
       let r = w .short in
       (rw g (read-data (c .0) t (omega arith) ∙ rw l), rw g (take-at t (0x55 ∷ []) (d .len) l))
 
-  pub request-read-back : (t : Text) → toWrite room src (is.ATRequest t) ≡ bytes f
-      → (readFrame f ≡ packet (atRequest (place 5 (t .len + 1)))) × (part f 5 (t .len + 1) ≡ part src (t .start) (t .len) ++ 13 ∷ [])
+  pub request-read-back : (t : Text) → toWrite room src (is.ATRequest t) ≡ good f
+      → (readFrame f ≡ good (atRequest (place 5 (t .len + 1)))) × (part f 5 (t .len + 1) ≡ part src (t .start) (t .len) ++ 13 ∷ [])
   unfolding frame part
   request-read-back t e =
       let w = framed room src (is.ATRequest t) f e in
@@ -96,7 +97,7 @@ module _ (room : ℕ) (src f : List ℕ) where
       let r = w .short in
       (rw g (read-request u (omega arith) (q .0) ∙ rw l), rw g (take-at (u ++ 13 ∷ []) (0x55 ∷ []) (t .len + 1) (omega arith)))
 
-  pub resend-read-back : toWrite room src is.ResendConnectEvents ≡ bytes f → readFrame f ≡ packet resendPacket
+  pub resend-read-back : toWrite room src is.ResendConnectEvents ≡ good f → readFrame f ≡ good resendPacket
   resend-read-back e =
       let w = framed room src is.ResendConnectEvents f e in
       let g : f ≡ frame 0x56 [] = cc in

@@ -4,7 +4,8 @@ use mathlib.Core.List.{List}
 use mathlib.Core.Bool.{Bool, cond, _&&_}
 use lib.Dec.{eqb, leb, ltb}
 use lib.ListN.{length, take, drop}
-use Rattle.edm.specs.Packet.{identifiers, carried, Outcome, refusal}
+use Rattle.at.specs.Refusal.{OrRefused, refused}
+use Rattle.edm.specs.Packet.{identifiers, carried, Packet}
 use Rattle.edm.specs.Payload.{byte, word, readPayload}
 
 -- AA first and 55 last
@@ -20,9 +21,9 @@ abbrev pub payload : List ℕ → List ℕ
 payload s = drop 5 (take (length s - 1) s)
 
 -- 1, 2, 3, then the identifier (4) and its payload
-unfoldable pub readFrame : List ℕ → Outcome
+unfoldable pub readFrame : List ℕ → OrRefused Packet
 readFrame s =
     cond (delimited s)
-    (cond (ltb (length s) 6) (refusal 2)
-    (cond (eqb (lengthField s) (length (payload s) + 2)) (readPayload (carried identifiers (word s 3)) 5 (payload s)) (refusal 3)))
-    (refusal 1)
+    (cond (ltb (length s) 6) (refused 2)
+    (cond (eqb (lengthField s) (length (payload s) + 2)) (readPayload (carried identifiers (word s 3)) 5 (payload s)) (refused 3)))
+    (refused 1)

@@ -3,8 +3,8 @@ use Prim.Native.Nat.{ℕ}
 use mathlib.Core.List.{List, [], _∷_}
 use mathlib.Core.Bool.{cond}
 use lib.Dec.{eqb}
-use Rattle.at.specs.Event.{Row, Value, at, num}
-use Rattle.at.specs.Event as event
+use Rattle.at.specs.Refusal.{OrRefused, good, refused}
+use Rattle.at.specs.Event.{Value, at, num, Event}
 use Rattle.at.specs.Response.{Response, responseOf}
 use Rattle.at.specs.W26.{eventOf}
 use Rattle.edm.specs.Refusal.{refusalNo}
@@ -44,12 +44,8 @@ pub data Packet : Type 0 where
   connectEvent disconnectEvent dataPacket dataCommand : List Value → Packet
   atRequest : Value → Packet
   atResponse : Response → Packet
-  atPacket : event.Outcome → Packet
+  atPacket : Event → Packet
   resendPacket startPacket : Packet
-
-pub data Outcome : Type 0 where
-  packet : Packet → Outcome
-  refusal : ℕ → Outcome
 
 abbrev pub packetOf : EdmPacket → Packet
 packetOf (is.ConnectEvent c e) = connectEvent (num (c .0) ∷ num (e .protocol) ∷ at (e .«remote_addr») ∷ num (e .«remote_port») ∷ at (e .«local_addr») ∷ num (e .«local_port») ∷ [])
@@ -62,6 +58,6 @@ packetOf (is.ATEvent e) = atPacket (eventOf e)
 packetOf is.ResendConnectEvents = resendPacket
 packetOf is.StartEvent = startPacket
 
-abbrev pub shown : FrameAnswer → Outcome
-shown (answer.Packet p) = packet (packetOf p)
-shown (answer.Refused e) = refusal (refusalNo e)
+abbrev pub shown : FrameAnswer → OrRefused Packet
+shown (answer.Packet p) = good (packetOf p)
+shown (answer.Refused e) = refused (refusalNo e)

@@ -2,17 +2,17 @@
 use Prim.Native.Nat.{ℕ}
 use Rattle.at.specs.Refusal as at
 use Rattle.edm.specs.declared.EdmPacketError.{EdmPacketError}
-use Rattle.edm.specs.declared.EdmPacketError.the-variants as refused
+use Rattle.edm.specs.declared.EdmPacketError.the-variants as error
 
 abbrev pub refusalNo : EdmPacketError → ℕ
-refusalNo refused.PacketDecodeFramingInvalid = 1
-refusalNo refused.PacketDecodeTargetMemorySizeInvalid = 2
-refusalNo refused.PacketTypeDecodeLengthMismatch = 3
-refusalNo refused.PayloadTypeUnknown = 4
-refusalNo refused.ConnectEventUnsupported = 5
-refusalNo refused.ConnectEventDecodeError = 6
-refusalNo refused.DisconnectEventDecodeError = 7
-refusalNo refused.AtRequestEventDecodeError = 8
-refusalNo refused.PacketEncodeTypeUnknown = 9
-refusalNo refused.PacketEncodePayloadSizeInvalid = 10
-refusalNo (refused.AtPacketError e) = at.refusalNo e
+refusalNo error.PacketDecodeFramingInvalid = 1
+refusalNo error.PacketDecodeTargetMemorySizeInvalid = 2
+refusalNo error.PacketTypeDecodeLengthMismatch = 3
+refusalNo error.PayloadTypeUnknown = 4
+refusalNo error.ConnectEventUnsupported = 5
+refusalNo error.ConnectEventDecodeError = 6
+refusalNo error.DisconnectEventDecodeError = 7
+refusalNo error.AtRequestEventDecodeError = 8
+refusalNo error.PacketEncodeTypeUnknown = 9
+refusalNo error.PacketEncodePayloadSizeInvalid = 10
+refusalNo (error.AtPacketError e) = at.refusalNo e

@@ -11,23 +11,24 @@ ghost use mathlib.Core.Path.{_≡_};
 ghost use mathlib.Core.List.{[], _∷_, _++_};
 ghost use Prim.Native.Nat.{_+_, _≤_};
 ghost use lib.ListN.{length};
-ghost use Rattle.edm.specs.Command.{command, requestOf, fitted, toSend, toWrite, refusal, shown, Writes};
+ghost use Rattle.at.specs.Refusal.{good, refused};
+ghost use Rattle.edm.specs.Command.{command, requestOf, fitted, toSend, toWrite, shown, Writes};
 
-// The frame of an identifier whose payload is `before`, `body` and `behind`.
+// The frame of an identifier whose payload is `before`, `body` and `tail`.
 fn write_frame(
     buf: &mut [u8],
     identifier: u8,
     before: &[u8],
     body: &[u8],
-    behind: &[u8],
+    tail: &[u8],
 ) -> WriteAnswer
-    requires { ⌜ (6 ≤ length (now buf)) × (length (now before) + length (now behind) ≤ 1) ⌝ }
-    ensures { λ r. ⌜ Writes (now (buf .entry)) (fitted (length (now (buf .entry))) (command identifier (now (before .entry) ++ now (body .entry) ++ now (behind .entry)))) r (now (buf .exit)) ⌝ }
+    requires { ⌜ (6 ≤ length (now buf)) × (length (now before) + length (now tail) ≤ 1) ⌝ }
+    ensures { λ r. ⌜ Writes (now (buf .entry)) (fitted (length (now (buf .entry))) (good (command identifier (now (before .entry) ++ now (body .entry) ++ now (tail .entry))))) r (now (buf .exit)) ⌝ }
 {
     if 4093 < body.len() {
         return WriteAnswer::Refused(EdmPacketError::PacketEncodePayloadSizeInvalid);
     }
-    let n = before.len() + body.len() + behind.len();
+    let n = before.len() + body.len() + tail.len();
     if 4093 < n {
         return WriteAnswer::Refused(EdmPacketError::PacketEncodePayloadSizeInvalid);
     }
@@ -45,7 +46,7 @@ fn write_frame(
     put(buf, 0, &head);
     put(buf, 5, before);
     put(buf, 5 + before.len(), body);
-    put(buf, 5 + before.len() + body.len(), behind);
+    put(buf, 5 + before.len() + body.len(), tail);
     let tail = [0x55u8];
     put(buf, 5 + n, &tail);
     WriteAnswer::Wrote(n + 6)
@@ -53,7 +54,7 @@ fn write_frame(
 
 // The frame of a data command.
 pub fn write_data(buf: &mut [u8], channel: Channel, data: &[u8]) -> WriteAnswer
-    ensures { λ r. ⌜ Writes (now (buf .entry)) (toSend (length (now (buf .entry))) (command 0x36 (channel .0 ∷ now («data» .entry)))) r (now (buf .exit)) ⌝ }
+    ensures { λ r. ⌜ Writes (now (buf .entry)) (toSend (length (now (buf .entry))) (good (command 0x36 (channel .0 ∷ now («data» .entry))))) r (now (buf .exit)) ⌝ }
 {
     if buf.len() < 6 {
         return WriteAnswer::Refused(EdmPacketError::PacketDecodeTargetMemorySizeInvalid);
@@ -79,7 +80,7 @@ pub fn write_request(buf: &mut [u8], text: &[u8]) -> WriteAnswer
 
 // The frame that asks for the connect events again.
 pub fn write_resend(buf: &mut [u8]) -> WriteAnswer
-    ensures { λ r. ⌜ Writes (now (buf .entry)) (toSend (length (now (buf .entry))) (command 0x56 [])) r (now (buf .exit)) ⌝ }
+    ensures { λ r. ⌜ Writes (now (buf .entry)) (toSend (length (now (buf .entry))) (good (command 0x56 []))) r (now (buf .exit)) ⌝ }
 {
     if buf.len() < 6 {
         return WriteAnswer::Refused(EdmPacketError::PacketDecodeTargetMemorySizeInvalid);
@@ -88,7 +89,7 @@ pub fn write_resend(buf: &mut [u8]) -> WriteAnswer
 }
 
 fn no_command() -> WriteAnswer
-    ensures { λ r. ⌜ shown r ≡ refusal 9 ⌝ }
+    ensures { λ r. ⌜ shown r ≡ refused 9 ⌝ }
 {
     WriteAnswer::Refused(EdmPacketError::PacketEncodeTypeUnknown)
 }

@@ -10,9 +10,10 @@ use borrow.Author.Tests.{leb-true}
 use Rattle.text.specs.Bytes.{bytes, same, startsWith}
 use Rattle.text.proofs.Bools.{and-left, and-right}
 use Rattle.text.proofs.BytesLaws.{same-equal}
-use Rattle.at.specs.Event.{Row, nameOf, kindsOf, Value, place, Outcome, event, refusal, eventTo, upTo, Read, values, refused, outcome, takeKinds, readRow}
-use Rattle.at.specs.Line.{before, Radio, Framed, body, broken, framed, Hit, hit, miss, search, fieldsAfter, readHit, readText, readFramed, readLine}
-use Rattle.at.specs.Binary.{fieldsUpTo, readFields, Marked, markedAt, unmarked, findMarker, announced, Data, dataAt, noData, readData, withData, readMarked, readBody, tried, prefix, tryRows}
+use Rattle.at.specs.Refusal.{OrRefused, good, refused}
+use Rattle.at.specs.Event.{Row, nameOf, kindsOf, Value, place, Event, event, eventTo, upTo, Read, values, withValues, takeKinds, readRow}
+use Rattle.at.specs.Line.{before, Radio, Body, body, framed, search, fieldsAfter, readNamed, readText, readFramed, readLine}
+use Rattle.at.specs.Binary.{fieldsUpTo, readFields, findMarker, announced, Data, dataAt, readData, withData, readMarked, readBody, tried, prefix, tryRows}
 use Rattle.render.specs.Words.{valuesLine}
 use Rattle.render.proofs.WordLengths.{data-none, data-place}
 use Rattle.render.proofs.FieldWeights.{weight-up-to, weight-after, extras, values-within}
@@ -25,15 +26,15 @@ pub record Short (src : List ℕ) (p : ℕ) (r : Row) (vs : List Value) (q : ℕ
 
 -- the event of a radio takes up 4 bytes and the text that is kept, or more, and no more than the line
 abbrev pub Spans : Radio → Type 0
-Spans radio = (p : ℕ) (line : List ℕ) (q : ℕ) (t : List ℕ) → framed p line ≡ body q t → (4 + length (radio .kept t) ≤ radio .spans line) × (radio .spans line ≤ length line)
+Spans radio = (p : ℕ) (line : List ℕ) (q : ℕ) (t : List ℕ) → framed p line ≡ good (body q t) → (4 + length (radio .kept t) ≤ radio .spans line) × (radio .spans line ≤ length line)
 
 -- data that were read stand after the two length bytes, and end in the text
-data-read : (p : ℕ) (t : List ℕ) (a n : ℕ) → readData p t ≡ dataAt a n → (a ≡ p + 2) × (2 + n ≤ length t)
+data-read : (p : ℕ) (t : List ℕ) (a n : ℕ) → readData p t ≡ good (dataAt a n) → (a ≡ p + 2) × (2 + n ≤ length t)
 unfolding readData
 data-read p t a n e = go (leb 2 (length t)) refl (leb (announced t) (length t - 2)) refl e
   where
     go : (k : Bool) → leb 2 (length t) ≡ k → (l : Bool) → leb (announced t) (length t - 2) ≡ l
-        → cond k (cond l (dataAt (p + 2) (announced t)) (noData 12)) (noData 12) ≡ dataAt a n → (a ≡ p + 2) × (2 + n ≤ length t)
+        → cond k (cond l (good (dataAt (p + 2) (announced t))) (refused 12)) (refused 12) ≡ good (dataAt a n) → (a ≡ p + 2) × (2 + n ≤ length t)
     go true k true l e =
         let x : p + 2 ≡ a = cc in
         let y : announced t ≡ n = cc in
@@ -43,12 +44,12 @@ data-read p t a n e = go (leb 2 (length t)) refl (leb (announced t) (length t - 
 
 module _ (test : Row → Bool) (src : List ℕ) (r : Row) (vs : List Value) where
   -- the row that is found by a name has it, and passes the test that every row passes
-  found-passes : (rows : List Row) (name : List ℕ) → rowsPass test rows ≡ true → search rows name ≡ hit r → (test r ≡ true) × (name ≡ nameOf r)
+  found-passes : (rows : List Row) (name : List ℕ) → rowsPass test rows ≡ true → search rows name ≡ good r → (test r ≡ true) × (name ≡ nameOf r)
   unfolding rowsPass search
   found-passes [] name t e = let z : _≡_ {A = ℕ} 0 1 = cc in absurd (omega arith)
   found-passes (q ∷ rs) name t e = go (same name (nameOf q)) refl e (found-passes rs name (and-right (test q) (rowsPass test rs) t))
     where
-      go : (k : Bool) → same name (nameOf q) ≡ k → cond k (hit q) (search rs name) ≡ hit r → (search rs name ≡ hit r → (test r ≡ true) × (name ≡ nameOf r))
+      go : (k : Bool) → same name (nameOf q) ≡ k → cond k (good q) (search rs name) ≡ good r → (search rs name ≡ good r → (test r ≡ true) × (name ≡ nameOf r))
           → (test r ≡ true) × (name ≡ nameOf r)
       go true k e ih =
           let f : q ≡ r = cc in
@@ -57,73 +58,73 @@ module _ (test : Row → Bool) (src : List ℕ) (r : Row) (vs : List Value) wher
       go false k e ih = ih e
 
   -- a text that is read, where the event takes up 4 bytes more than the text
-  text-short : (rows : List Row) (x : ℕ) (t : List ℕ) (p q : ℕ) → rowsPass test rows ≡ true → readText rows x t ≡ event r vs → p + 4 + length t ≤ q
+  text-short : (rows : List Row) (x : ℕ) (t : List ℕ) (p q : ℕ) → rowsPass test rows ≡ true → readText rows x t ≡ good (event r vs) → p + 4 + length t ≤ q
       → (test r ≡ true) × Short src p r vs q
   unfolding readText readRow
   text-short rows x t p q a e h = go (search rows (before (bytes ":") t)) refl e
     where
-      read : (b : Row) → search rows (before (bytes ":") t) ≡ hit b → (o : Read) → takeKinds (kindsOf b) (fieldsAfter x t) ≡ o → outcome b o ≡ event r vs
+      read : (b : Row) → search rows (before (bytes ":") t) ≡ good b → (o : OrRefused Read) → takeKinds (kindsOf b) (fieldsAfter x t) ≡ o → withValues b o ≡ good (event r vs)
           → (test r ≡ true) × Short src p r vs q
-      read b k (values us l) o e =
+      read b k (good (values us l)) o e =
           let f : b ≡ r = cc in
           let g : us ≡ vs = cc in
           let n = found-passes rows (before (bytes ":") t) a (rw f at k) in
-          let v : takeKinds (kindsOf r) (fieldsAfter x t) ≡ values vs l = rw (f, g) at o in
+          let v : takeKinds (kindsOf r) (fieldsAfter x t) ≡ good (values vs l) = rw (f, g) at o in
           let w = rw (append-nil vs) at (values-within (kindsOf r) (fieldsAfter x t) src vs [] l v) in
           let u : length (before (bytes ":") t) ≡ length (nameOf r) = ap length (n .1) in
           let m = weight-after x t in
           (n .0, record { named = omega arith; short = omega (arith, w, data-none src) })
       read b k (refused n) o e = let z : _≡_ {A = ℕ} 0 1 = cc in absurd (omega arith)
 
-      go : (k : Hit) → search rows (before (bytes ":") t) ≡ k → readHit k (fieldsAfter x t) ≡ event r vs → (test r ≡ true) × Short src p r vs q
-      go (hit b) k e = read b k (takeKinds (kindsOf b) (fieldsAfter x t)) refl e
-      go miss k e = let z : _≡_ {A = ℕ} 0 1 = cc in absurd (omega arith)
+      go : (k : OrRefused Row) → search rows (before (bytes ":") t) ≡ k → readNamed k (fieldsAfter x t) ≡ good (event r vs) → (test r ≡ true) × Short src p r vs q
+      go (good b) k e = read b k (takeKinds (kindsOf b) (fieldsAfter x t)) refl e
+      go (refused n) k e = let z : _≡_ {A = ℕ} 0 1 = cc in absurd (omega arith)
 
   -- a line
-  pub line-short : (radio : Radio) → rowsPass test (radio .rows) ≡ true → Spans radio → (p : ℕ) (line : List ℕ) (q : ℕ) → readLine radio p line ≡ eventTo r vs q
+  pub line-short : (radio : Radio) → rowsPass test (radio .rows) ≡ true → Spans radio → (p : ℕ) (line : List ℕ) (q : ℕ) → readLine radio p line ≡ good (eventTo (event r vs) q)
       → (test r ≡ true) × Short src p r vs q × (q ≤ p + length line)
   unfolding readLine
   line-short radio a h p line q e = go (framed p line) refl e
     where
-      read : (x : ℕ) (t : List ℕ) → framed p line ≡ body x t → (o : Outcome) → readText (radio .rows) x (radio .kept t) ≡ o → upTo (p + radio .spans line) o ≡ eventTo r vs q
+      read : (x : ℕ) (t : List ℕ) → framed p line ≡ good (body x t) → (o : OrRefused Event) → readText (radio .rows) x (radio .kept t) ≡ o → upTo (p + radio .spans line) o ≡ good (eventTo (event r vs) q)
           → (test r ≡ true) × Short src p r vs q × (q ≤ p + length line)
-      read x t f (event b us) o e =
-          let g : event b us ≡ event r vs = cc in
+      read x t f (good b) o e =
+          let g : good b ≡ good (event r vs) = cc in
           let z : p + radio .spans line ≡ q = cc in
           let k = h p line x t f in
           let c = text-short (radio .rows) x (radio .kept t) p q a (o ∙ g) (omega (arith, z, k .0)) in
           (c .0, c .1, omega (arith, z, k .1))
-      read x t f (refusal n) o e = let z : _≡_ {A = ℕ} 0 1 = cc in absurd (omega arith)
+      read x t f (refused n) o e = let z : _≡_ {A = ℕ} 0 1 = cc in absurd (omega arith)
 
-      go : (f : Framed) → framed p line ≡ f → upTo (p + radio .spans line) (readFramed radio f) ≡ eventTo r vs q → (test r ≡ true) × Short src p r vs q × (q ≤ p + length line)
-      go (body x t) f e = read x t f (readText (radio .rows) x (radio .kept t)) refl e
-      go (broken n) f e = let z : _≡_ {A = ℕ} 0 1 = cc in absurd (omega arith)
+      go : (f : OrRefused Body) → framed p line ≡ f → upTo (p + radio .spans line) (readFramed radio f) ≡ good (eventTo (event r vs) q) → (test r ≡ true) × Short src p r vs q × (q ≤ p + length line)
+      go (good (body x t)) f e = read x t f (readText (radio .rows) x (radio .kept t)) refl e
+      go (refused n) f e = let z : _≡_ {A = ℕ} 0 1 = cc in absurd (omega arith)
 
   -- what follows the colon of a binary event: k bytes of fields, the marker, and the data, whose value comes after the fields' values
-  data-short : (a : Row) (p k : ℕ) (u t : List ℕ) (f : Read) (d : Data) (q : ℕ) → length u ≤ k → readFields a p u ≡ f → readData (p + k + 1) t ≡ d → withData a f d ≡ eventTo r vs q
+  data-short : (a : Row) (p k : ℕ) (u t : List ℕ) (f : OrRefused Read) (d : OrRefused Data) (q : ℕ) → length u ≤ k → readFields a p u ≡ f → readData (p + k + 1) t ≡ d → withData a f d ≡ good (eventTo (event r vs) q)
       → (a ≡ r) × (p + 3 ≤ q) × (length (valuesLine (kindsOf r) src vs) + 2 * p + 2 ≤ extras (kindsOf r) + 2 * q) × (2 ≤ length t) × (q ≤ p + k + 1 + length t)
   unfolding readFields
-  data-short a p k u t (values us l) (dataAt x n) q h f d e =
+  data-short a p k u t (good (values us l)) (good (dataAt x n)) q h f d e =
       let b : a ≡ r = cc in
       let g : us ++ place x n ∷ [] ≡ vs = cc in
       let z : x + n ≡ q = cc in
-      let v : takeKinds (kindsOf r) (fieldsUpTo (length (kindsOf r) - 1) p u) ≡ values us l = rw b at f in
+      let v : takeKinds (kindsOf r) (fieldsUpTo (length (kindsOf r) - 1) p u) ≡ good (values us l) = rw b at f in
       let w = rw g at (values-within (kindsOf r) (fieldsUpTo (length (kindsOf r) - 1) p u) src us (place x n ∷ []) l v) in
       let m = weight-up-to (length (kindsOf r) - 1) p u in
       let i = data-read (p + k + 1) t x n d in
       (b, omega (arith, z, i), omega (arith, w, m, h, z, i, data-place src x n [], data-none src), omega (arith, i), omega (arith, z, i))
-  data-short a p k u t (values us l) (noData n) q h f d e = let z : _≡_ {A = ℕ} 0 1 = cc in absurd (omega arith)
+  data-short a p k u t (good (values us l)) (refused n) q h f d e = let z : _≡_ {A = ℕ} 0 1 = cc in absurd (omega arith)
   data-short a p k u t (refused n) d q h f g e = let z : _≡_ {A = ℕ} 0 1 = cc in absurd (omega arith)
 
   -- a binary event
-  pub binary-short : (rows : List Row) → rowsPass test rows ≡ true → (p : ℕ) (s : List ℕ) (q : ℕ) → tryRows rows p s ≡ tried (eventTo r vs q)
+  pub binary-short : (rows : List Row) → rowsPass test rows ≡ true → (p : ℕ) (s : List ℕ) (q : ℕ) → tryRows rows p s ≡ tried (good (eventTo (event r vs) q))
       → (test r ≡ true) × Short src p r vs q × (q ≤ p + length s)
   unfolding tryRows rowsPass readBody
   binary-short [] a p s q e = let z : _≡_ {A = ℕ} 0 1 = cc in absurd (omega arith)
   binary-short (b ∷ rs) a p s q e = go (startsWith s (prefix b)) e (binary-short rs (and-right (test b) (rowsPass test rs) a) p s q)
     where
-      marked : (m : Marked) → readMarked b (p + length (prefix b)) (drop (length (prefix b)) s) m ≡ eventTo r vs q → (test r ≡ true) × Short src p r vs q × (q ≤ p + length s)
-      marked (markedAt k) e =
+      marked : (m : OrRefused ℕ) → readMarked b (p + length (prefix b)) (drop (length (prefix b)) s) m ≡ good (eventTo (event r vs) q) → (test r ≡ true) × Short src p r vs q × (q ≤ p + length s)
+      marked (good k) e =
           let x = p + length (prefix b) in
           let t = drop (length (prefix b)) s in
           let c = data-short b x k (take k t) (drop (k + 1) t) (readFields b x (take k t)) (readData (x + k + 1) (drop (k + 1) t)) q (omega (arith, length-take k t)) refl refl e in
@@ -134,9 +135,9 @@ module _ (test : Row → Bool) (src : List ℕ) (r : Row) (vs : List Value) wher
             record { named = omega (arith, l, c .1); short = omega (arith, l, c .2) },
             omega (arith, c .3, c .4, length-drop (k + 1) t, length-drop (length (prefix b)) s),
           )
-      marked (unmarked n) e = let z : _≡_ {A = ℕ} 0 1 = cc in absurd (omega arith)
+      marked (refused n) e = let z : _≡_ {A = ℕ} 0 1 = cc in absurd (omega arith)
 
-      go : (k : Bool) → cond k (tried (readBody b (p + length (prefix b)) (drop (length (prefix b)) s))) (tryRows rs p s) ≡ tried (eventTo r vs q)
-          → (tryRows rs p s ≡ tried (eventTo r vs q) → (test r ≡ true) × Short src p r vs q × (q ≤ p + length s)) → (test r ≡ true) × Short src p r vs q × (q ≤ p + length s)
-      go true e ih = let f : readBody b (p + length (prefix b)) (drop (length (prefix b)) s) ≡ eventTo r vs q = cc in marked (findMarker (drop (length (prefix b)) s)) f
+      go : (k : Bool) → cond k (tried (readBody b (p + length (prefix b)) (drop (length (prefix b)) s))) (tryRows rs p s) ≡ tried (good (eventTo (event r vs) q))
+          → (tryRows rs p s ≡ tried (good (eventTo (event r vs) q)) → (test r ≡ true) × Short src p r vs q × (q ≤ p + length s)) → (test r ≡ true) × Short src p r vs q × (q ≤ p + length s)
+      go true e ih = let f : readBody b (p + length (prefix b)) (drop (length (prefix b)) s) ≡ good (eventTo (event r vs) q) = cc in marked (findMarker (drop (length (prefix b)) s)) f
       go false e ih = ih e

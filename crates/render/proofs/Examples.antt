@@ -3,53 +3,54 @@ use mathlib.Core.Path.{_≡_, refl}
 use mathlib.Core.List.{[], _∷_}
 use Rattle.text.specs.Bytes.{bytes, hex, part, same}
 use Rattle.text.specs.Decimal.{digitsOf, decimal}
+use Rattle.at.specs.Refusal.{good, refused}
 use Rattle.at.specs.Event.{num, place, event}
 use Rattle.at.specs.W26.{UUDPC, UUDPD, UUWLE, UUWLD, UUWAPU, UUWAPD, UUWAPSTAC, UUWAPSTAD, UUETHLU}
 use Rattle.at.specs.W36.{UESOC, UESOCL, UESODA, UEWLU, UEWLD, UEWAPSA}
-use Rattle.at.specs.Walk.{eventThen, ended, stopped}
-use Rattle.edm.specs.Packet.{dataPacket, connectEvent, atPacket, packet, refusal}
+use Rattle.at.specs.Walk.{eventThen, thenEnd, thenRefused}
+use Rattle.edm.specs.Packet.{dataPacket, connectEvent, atPacket}
 use Rattle.render.specs.Words.{pairsOf, nameIn, reasons, numberWord, valuesLine}
 use Rattle.render.specs.Refusal.{refusals, refusedLine, frameRefusedLine}
-use Rattle.render.specs.Event.{cases26, cases36, caseOf, outcomeLine}
+use Rattle.render.specs.Event.{cases26, cases36, caseOf, eventLine}
 use Rattle.render.specs.Frame.{frameLine}
 use Rattle.render.specs.Walk.{walkLine}
 
-pub data-event : frameLine (hex "AA 00 04 00 36 03 41 55") (packet (dataPacket (num 3 ∷ place 6 1 ∷ []))) ≡ bytes "DataEvent 3 41"
+pub data-event : frameLine (hex "AA 00 04 00 36 03 41 55") (good (dataPacket (num 3 ∷ place 6 1 ∷ []))) ≡ bytes "DataEvent 3 41"
 unfolding valuesLine numberWord decimal digitsOf pairsOf part
 data-event = refl
 
 -- the kind of a connect event is named after the channel
 pub connect-event : frameLine (hex "AA 00 11 00 11 03 02 06 C0 A8 00 01 1F 90 0A 00 00 02 04 D2 55")
-    (packet (connectEvent (num 3 ∷ num 6 ∷ place 8 4 ∷ num 8080 ∷ place 14 4 ∷ num 1234 ∷ [])))
+    (good (connectEvent (num 3 ∷ num 6 ∷ place 8 4 ∷ num 8080 ∷ place 14 4 ∷ num 1234 ∷ [])))
     ≡ bytes "ConnectEvent 3 ConnectEventIPv4 6 c0a80001 8080 0a000002 1234"
 unfolding valuesLine numberWord decimal digitsOf pairsOf part
 connect-event = refl
 
-pub link-up : frameLine [] (packet (atPacket (event UUETHLU []))) ≡ bytes "ATEvent EthernetLinkUp"
+pub link-up : frameLine [] (good (atPacket (event UUETHLU []))) ≡ bytes "ATEvent EthernetLinkUp"
 unfolding valuesLine cases26 caseOf same UUDPC UUDPD UUWLE UUWLD UUWAPU UUWAPD UUWAPSTAC UUWAPSTAD UUETHLU
 link-up = refl
 
 -- a reason is named
-pub left-link : outcomeLine cases26 [] (event UUWLD (num 7 ∷ num 4 ∷ [])) ≡ bytes "WifiLinkDisconnected 7 SecurityProblems"
+pub left-link : eventLine cases26 [] (event UUWLD (num 7 ∷ num 4 ∷ [])) ≡ bytes "WifiLinkDisconnected 7 SecurityProblems"
 unfolding valuesLine numberWord nameIn reasons decimal digitsOf cases26 caseOf same UUDPC UUDPD UUWLE UUWLD
 left-link = refl
 
 -- an empty text
-pub no-text : outcomeLine cases36 [] (event UEWAPSA (place 11 0 ∷ [])) ≡ bytes "WifiAccessPointStationAssociated -"
+pub no-text : eventLine cases36 [] (event UEWAPSA (place 11 0 ∷ [])) ≡ bytes "WifiAccessPointStationAssociated -"
 unfolding valuesLine part cases36 caseOf same UESOC UESOCL UESODA UEWLU UEWLD UEWAPSA
 no-text = refl
 
 -- a refusal of the AT layer in a frame
-pub wrapped : frameLine [] (refusal 16) ≡ bytes "refused AtPacketError EventUnknown"
+pub wrapped : frameLine [] (refused 16) ≡ bytes "refused AtPacketError EventUnknown"
 unfolding frameRefusedLine nameIn refusals
 wrapped = refl
 
 -- a walk to the end, and one that stops
-pub two-connected : walkLine [] (eventThen UESOC (num 1 ∷ []) 12 (eventThen UESOC (num 2 ∷ []) 24 ended))
+pub two-connected : walkLine [] (eventThen (event UESOC (num 1 ∷ [])) 12 (eventThen (event UESOC (num 2 ∷ [])) 24 thenEnd))
     ≡ bytes "SocketConnected 1 @12 ; SocketConnected 2 @24 ; end"
 unfolding walkLine valuesLine numberWord decimal digitsOf cases36 caseOf same UESOC
 two-connected = refl
 
-pub one-connected : walkLine [] (eventThen UESOC (num 1 ∷ []) 12 (stopped 12 12)) ≡ bytes "SocketConnected 1 @12 ; refused FramingDecodeFailed @12"
+pub one-connected : walkLine [] (eventThen (event UESOC (num 1 ∷ [])) 12 (thenRefused 12 12)) ≡ bytes "SocketConnected 1 @12 ; refused FramingDecodeFailed @12"
 unfolding walkLine valuesLine numberWord decimal digitsOf cases36 caseOf same UESOC refusedLine nameIn refusals
 one-connected = refl

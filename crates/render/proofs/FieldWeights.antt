@@ -10,7 +10,8 @@ use borrow.Author.Tests.{ltb-true}
 use Rattle.text.specs.Bytes.{bytes}
 use Rattle.text.specs.Find.{firstOf}
 use Rattle.text.specs.Field.{Field, field, grow, fieldsFrom}
-use Rattle.at.specs.Event.{Kind, Value, One, good, bad, readField, andRest, takeKind, Read, values, refused, prepend, andThen, takeKinds}
+use Rattle.at.specs.Refusal.{OrRefused, good, refused}
+use Rattle.at.specs.Event.{Kind, Value, readField, andRest, takeKind, Read, values, prepend, andThen, takeKinds}
 use Rattle.at.specs.Line.{before, fieldsAfter}
 use Rattle.at.specs.Binary.{fieldsUpTo}
 use Rattle.render.specs.Words.{wordOf, valuesLine}
@@ -63,20 +64,20 @@ extras [] = 0
 extras (k ∷ ks) = extra k + extras ks
 
 -- the values of fields, and values without a kind after them
-pub values-within : (ks : List Kind) (fs : List Field) (src : List ℕ) (vs more : List Value) (rest : List Field) → takeKinds ks fs ≡ values vs rest
+pub values-within : (ks : List Kind) (fs : List Field) (src : List ℕ) (vs more : List Value) (rest : List Field) → takeKinds ks fs ≡ good (values vs rest)
     → length (valuesLine ks src (vs ++ more)) ≤ 2 * weight fs + extras ks + length (valuesLine [] src more)
 unfolding takeKinds takeKind extras weight
 values-within [] fs src vs more rest e = let f : vs ≡ [] = cc in rw f (omega arith)
 values-within (k ∷ ks) [] src vs more rest e = let z : _≡_ {A = ℕ} 0 1 = cc in absurd (omega arith)
 values-within (k ∷ ks) (field p b ∷ fs) src vs more rest e = go (readField k p b) refl (takeKinds ks fs) refl e (values-within ks fs src)
   where
-    go : (o : One) → readField k p b ≡ o → (r : Read) → takeKinds ks fs ≡ r → andThen (andRest o fs) (λ l. takeKinds ks l) ≡ values vs rest
-        → ((us more : List Value) (rest : List Field) → takeKinds ks fs ≡ values us rest
+    go : (o : OrRefused Value) → readField k p b ≡ o → (r : OrRefused Read) → takeKinds ks fs ≡ r → andThen (andRest o fs) (λ l. takeKinds ks l) ≡ good (values vs rest)
+        → ((us more : List Value) (rest : List Field) → takeKinds ks fs ≡ good (values us rest)
         → length (valuesLine ks src (us ++ more)) ≤ 2 * weight fs + extras ks + length (valuesLine [] src more))
         → length (valuesLine (k ∷ ks) src (vs ++ more)) ≤ 2 * (suc (length b) + weight fs) + (extra k + extras ks) + length (valuesLine [] src more)
-    go (good v) o (values us l) r e ih =
-        let f : prepend v (values us l) ≡ values vs rest = rw r at e in
+    go (good v) o (good (values us l)) r e ih =
+        let f : prepend v (good (values us l)) ≡ good (values vs rest) = rw r at e in
         let g : vs ≡ v ∷ us = cc in
         rw g (unfold valuesLine in omega (arith, length-append (wordOf k src v) (valuesLine ks src (us ++ more)), word-within k p b src v o, ih us more l r))
-    go (good v) o (refused n) r e ih = let f : prepend v (refused n) ≡ values vs rest = rw r at e in let z : _≡_ {A = ℕ} 0 1 = cc in absurd (omega arith)
-    go (bad n) o r q e ih = let z : _≡_ {A = ℕ} 0 1 = cc in absurd (omega arith)
+    go (good v) o (refused n) r e ih = let f : prepend v (refused n) ≡ good (values vs rest) = rw r at e in let z : _≡_ {A = ℕ} 0 1 = cc in absurd (omega arith)
+    go (refused n) o r q e ih = let z : _≡_ {A = ℕ} 0 1 = cc in absurd (omega arith)

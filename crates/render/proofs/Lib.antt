@@ -4,7 +4,6 @@ pub mod NameLaws
 pub mod KindLaws
 pub mod ValueLaws
 pub mod FieldLaws
-pub mod StepLaws
 pub mod OneOutcome
 pub mod Examples
 pub mod WordLengths

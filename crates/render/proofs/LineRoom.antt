@@ -8,7 +8,8 @@ use lib.ListN.{length, take, drop, length-append, length-take, length-drop}
 use borrow.Author.Tests.{leb-true}
 use Rattle.text.specs.Bytes.{bytes}
 use Rattle.text.specs.Find.{crlf, firstOf}
-use Rattle.at.specs.Event.{Row, kindsOf, Value, Answer, eventTo, noEvent}
+use Rattle.at.specs.Refusal.{OrRefused, good, refused}
+use Rattle.at.specs.Event.{Row, kindsOf, Value, ReadEvent, eventTo, event}
 use Rattle.at.specs.Line.{before, Radio, readLine}
 use Rattle.at.specs.Binary.{Tried, notBinary, tried, tryRows}
 use Rattle.at.specs.W26 as w26
@@ -39,7 +40,7 @@ spans-36 p line q t e =
 
 -- an event that ends at most n bytes after its place
 event-room : (cases : List Case) (src : List ℕ) (p : ℕ) (r : Row) (vs : List Value) (q n : ℕ) → cheap cases r ≡ true → Short src p r vs q → q ≤ p + n
-    → length (eventLine cases src r vs) ≤ 2 * n + 50
+    → length (eventLine cases src (event r vs)) ≤ 2 * n + 50
 event-room cases src p r vs q n c s h =
     omega (arith, leb-true (cost cases r) 50 c, s .short, h, length-append (bytes (caseOf cases r)) (valuesLine (kindsOf r) src vs))
 
@@ -48,11 +49,11 @@ pub answer-room : (cases : List Case) (radio : Radio) → rowsPass (cheap cases)
     → length (answerLine cases src (readLine radio p line)) ≤ 2 * length line + 50
 answer-room cases radio c h src p line = go (readLine radio p line) refl
   where
-    go : (a : Answer) → readLine radio p line ≡ a → length (answerLine cases src a) ≤ 2 * length line + 50
-    go (eventTo r vs q) e =
+    go : (a : OrRefused ReadEvent) → readLine radio p line ≡ a → length (answerLine cases src a) ≤ 2 * length line + 50
+    go (good (eventTo (event r vs) q)) e =
         let x = line-short (cheap cases) src r vs radio c h p line q e in
         event-room cases src p r vs q (length line) (x .0) (x .1) (x .2)
-    go (noEvent n) e = omega (arith, refused-room n)
+    go (refused n) e = omega (arith, refused-room n)
 
 pub w26-room : (s : List ℕ) → length (answerLine cases26 s (readLine w26.w26 0 s)) ≤ 2 * length s + 150
 w26-room s = omega (arith, answer-room cases26 w26.w26 cheap-26 spans-26 s 0 s)
@@ -64,8 +65,8 @@ pub binary-room : (s : List ℕ) → length (triedLine s (tryRows w36.binaryTabl
 binary-room s = go (tryRows w36.binaryTable 0 s) refl
   where
     go : (t : Tried) → tryRows w36.binaryTable 0 s ≡ t → length (triedLine s t) ≤ 2 * length s + 150
-    go (tried (eventTo r vs q)) e =
+    go (tried (good (eventTo (event r vs) q))) e =
         let x = binary-short (cheap cases36) s r vs w36.binaryTable (passed-36 .0 .binaries) 0 s q e in
         omega (arith, event-room cases36 s 0 r vs q (length s) (x .0) (x .1) (x .2))
-    go (tried (noEvent n)) e = omega (arith, refused-room n)
+    go (tried (refused n)) e = omega (arith, refused-room n)
     go notBinary e = omega arith

@@ -9,7 +9,7 @@ use lib.ListN.{length, drop, getD, length-drop}
 use lib.Seq.{drop-drop, getD-drop, take-append-seam, drop-append-seam}
 use Rattle.text.specs.Bytes.{bytes, part}
 use Rattle.at.specs.Event.{Row}
-use Rattle.at.specs.Line.{hit}
+use Rattle.at.specs.Refusal.{good}
 use Rattle.at.specs.Parts.{rowNo}
 use Rattle.render.specs.Words.{Name, _is_, nameIn}
 use Rattle.render.specs.Steps.{spelled, numbered}
@@ -75,7 +75,7 @@ module _ (list : List Name) (n : ℕ) (s : List ℕ) (at : ℕ) where
             }
 
 -- names that are numbered by their rows, from j on
-case-from : (f : Row → String) (rows : List Row) (j i : ℕ) (r : Row) → rowNo rows i ≡ hit r → nameIn (numbered j (map f rows)) (j + i) ≡ bytes (f r)
+case-from : (f : Row → String) (rows : List Row) (j i : ℕ) (r : Row) → rowNo rows i ≡ good r → nameIn (numbered j (map f rows)) (j + i) ≡ bytes (f r)
 unfolding rowNo numbered nameIn
 case-from f [] j i r e = let z : _≡_ {A = ℕ} 0 1 = cc in absurd (omega arith)
 case-from f (q ∷ rs) j zero r e =
@@ -87,5 +87,5 @@ case-from f (q ∷ rs) j (suc i) r e =
     let next : j + suc i ≡ suc j + i = omega arith in
     rw (ne-eqb (j + suc i) j later, next) (case-from f rs (suc j) i r e)
 
-pub case-of-row : (f : Row → String) (rows : List Row) (i : ℕ) (r : Row) → rowNo rows i ≡ hit r → nameIn (numbered 0 (map f rows)) i ≡ bytes (f r)
+pub case-of-row : (f : Row → String) (rows : List Row) (i : ℕ) (r : Row) → rowNo rows i ≡ good r → nameIn (numbered 0 (map f rows)) i ≡ bytes (f r)
 case-of-row f rows i r e = let z : 0 + i ≡ i = omega arith in rw z at (case-from f rows 0 i r e)

@@ -12,8 +12,9 @@ use Rattle.text.specs.Utf8.{utf8}
 use Rattle.text.specs.declared.find.Found.{Found}
 use Rattle.text.specs.declared.find.Found.the-variants.{At, Nothing}
 use Rattle.at.specs.Line.{endsIn}
-use Rattle.at.specs.Response.{ok, other, error, refusal, byLast, readBody, readRest, readResponse}
-use Rattle.render.specs.Response.{responseLine}
+use Rattle.at.specs.Refusal.{good, refused}
+use Rattle.at.specs.Response.{ok, other, error, byLast, readBody, readRest, readResponse}
+use Rattle.render.specs.Response.{responseLine, responseAnswerLine}
 use Rattle.render.proofs.WordLengths.{refused-room, data-none, data-place}
 
 -- the last place that is looked for is one of those looked at
@@ -47,23 +48,23 @@ module _ (src : List ℕ) where
       go false false (At i) e = last (same (drop (i + 2) t) (bytes "OK")) i (last-below crlf t (length t) i e)
       go false false Nothing e = other-room p (length t) (length t) (omega arith)
 
-  rest-room : (p : ℕ) (t : List ℕ) → length (responseLine src (readRest p t)) ≤ 2 * length t + 50
+  rest-room : (p : ℕ) (t : List ℕ) → length (responseAnswerLine src (readRest p t)) ≤ 2 * length t + 50
   unfolding readRest
   rest-room p t = go (endsIn t crlf)
     where
-      go : (k : Bool) → length (responseLine src (cond k (readBody p (take (length t - 2) t)) (refusal 12))) ≤ 2 * length t + 50
+      go : (k : Bool) → length (responseAnswerLine src (cond k (good (readBody p (take (length t - 2) t))) (refused 12))) ≤ 2 * length t + 50
       go true = omega (arith, body-room p (take (length t - 2) t), length-take (length t - 2) t)
       go false = omega (arith, refused-room 12)
 
   -- at any place of any source
-  pub response-room-at : (p : ℕ) (s : List ℕ) → length (responseLine src (readResponse p s)) ≤ 2 * length s + 50
+  pub response-room-at : (p : ℕ) (s : List ℕ) → length (responseAnswerLine src (readResponse p s)) ≤ 2 * length s + 50
   unfolding readResponse
   response-room-at p s = go (utf8 s) (ltb (firstOf crlf s) (length s)) (firstOf crlf s + 2)
     where
-      go : (u k : Bool) (i : ℕ) → length (responseLine src (cond u (cond k (readRest (p + firstOf crlf s + 2) (drop i s)) (refusal 12)) (refusal 11))) ≤ 2 * length s + 50
+      go : (u k : Bool) (i : ℕ) → length (responseAnswerLine src (cond u (cond k (readRest (p + firstOf crlf s + 2) (drop i s)) (refused 12)) (refused 11))) ≤ 2 * length s + 50
       go true true i = omega (arith, rest-room (p + firstOf crlf s + 2) (drop i s), length-drop i s)
       go true false i = omega (arith, refused-room 12)
       go false k i = omega (arith, refused-room 11)
 
-pub response-room : (s : List ℕ) → length (responseLine s (readResponse 0 s)) ≤ 2 * length s + 150
+pub response-room : (s : List ℕ) → length (responseAnswerLine s (readResponse 0 s)) ≤ 2 * length s + 150
 response-room s = omega (arith, response-room-at s 0 s)

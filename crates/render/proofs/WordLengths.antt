@@ -15,7 +15,8 @@ use Rattle.text.specs.Number.{Num, some, none, number}
 use Rattle.text.proofs.Bools.{and-left, and-right}
 use Rattle.text.proofs.DecimalLaws.{decimal-one, decimal-more}
 use Rattle.text.proofs.Spelling.{read-exactly}
-use Rattle.at.specs.Event.{Kind, bits, text, ipType, protocol, reason, Value, num, place, good, bad, listed, isProtocol, isReason, readField}
+use Rattle.at.specs.Refusal.{good, refused}
+use Rattle.at.specs.Event.{Kind, bits, text, ipType, protocol, reason, Value, num, place, listed, isProtocol, isReason, readField}
 use Rattle.render.specs.Refusal.{refusals, refusedLine, frameRefusedLine}
 use Rattle.render.specs.Words.{pairsOf, hexOf, Name, _is_, nameIn, isIPv6, protocols, reasons, numberWord, wordOf, valuesLine}
 
@@ -89,7 +90,7 @@ extra reason = 15
 listed-number : (q : ℕ → Bool) (x : Num) (v : Value) → listed q x ≡ good v → (n : ℕ) × (x ≡ some n) × (v ≡ num n)
 listed-number q (some n) v e = go (q n) e
   where
-    go : (t : Bool) → cond t (good (num n)) (bad 15) ≡ good v → (m : ℕ) × (some n ≡ some m) × (v ≡ num m)
+    go : (t : Bool) → cond t (good (num n)) (refused 15) ≡ good v → (m : ℕ) × (some n ≡ some m) × (v ≡ num m)
     go true e = (n, refl, cc)
     go false e = let z : _≡_ {A = ℕ} 0 1 = cc in absurd (omega arith)
 listed-number q none v e = let z : _≡_ {A = ℕ} 0 1 = cc in absurd (omega arith)
@@ -102,7 +103,7 @@ word-within (bits w) p b src v e =
 word-within text p b src v e = let f : v ≡ place p (length b) = cc in rw f (omega (arith, place-within src p (length b)))
 word-within ipType p b src v e = go (same b (bytes "2")) (same b (bytes "3")) e
   where
-    go : (s t : Bool) → cond s (good (num 2)) (cond t (good (num 3)) (bad 13)) ≡ good v → length (wordOf ipType src v) ≤ 2 * length b + 1 + 0
+    go : (s t : Bool) → cond s (good (num 2)) (cond t (good (num 3)) (refused 13)) ≡ good v → length (wordOf ipType src v) ≤ 2 * length b + 1 + 0
     go true t e = let f : v ≡ num 2 = cc in rw f (omega (arith, name-within 1 isIPv6 refl 2))
     go false true e = let f : v ≡ num 3 = cc in rw f (omega (arith, name-within 1 isIPv6 refl 3))
     go false false e = let z : _≡_ {A = ℕ} 0 1 = cc in absurd (omega arith)

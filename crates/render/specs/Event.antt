@@ -4,7 +4,8 @@ use Prim.Native.String.{String}
 use mathlib.Core.List.{List, [], _∷_, _++_}
 use mathlib.Core.Bool.{cond}
 use Rattle.text.specs.Bytes.{bytes, same}
-use Rattle.at.specs.Event.{Row, nameOf, kindsOf, Value, Outcome, event, refusal, Answer, eventTo, noEvent}
+use Rattle.at.specs.Refusal.{OrRefused, good, refused}
+use Rattle.at.specs.Event.{Row, nameOf, kindsOf, Event, event, ReadEvent, eventTo}
 use Rattle.at.specs.W26 as w26
 use Rattle.at.specs.W36 as w36
 use Rattle.render.specs.Words.{valuesLine}
@@ -56,14 +57,10 @@ unfoldable pub caseOf : List Case → Row → String
 caseOf [] r = ""
 caseOf ((q gives name) ∷ cases) r = cond (same (nameOf q) (nameOf r)) name (caseOf cases r)
 
-abbrev pub eventLine : List Case → List ℕ → Row → List Value → List ℕ
-eventLine cases src r vs = bytes (caseOf cases r) ++ valuesLine (kindsOf r) src vs
-
-abbrev pub outcomeLine : List Case → List ℕ → Outcome → List ℕ
-outcomeLine cases src (event r vs) = eventLine cases src r vs
-outcomeLine cases src (refusal n) = refusedLine n
+abbrev pub eventLine : List Case → List ℕ → Event → List ℕ
+eventLine cases src (event r vs) = bytes (caseOf cases r) ++ valuesLine (kindsOf r) src vs
 
 -- the place just past an event is not printed
-abbrev pub answerLine : List Case → List ℕ → Answer → List ℕ
-answerLine cases src (eventTo r vs past) = eventLine cases src r vs
-answerLine cases src (noEvent n) = refusedLine n
+abbrev pub answerLine : List Case → List ℕ → OrRefused ReadEvent → List ℕ
+answerLine cases src (good (eventTo e past)) = eventLine cases src e
+answerLine cases src (refused n) = refusedLine n

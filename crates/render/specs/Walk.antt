@@ -4,7 +4,7 @@ use mathlib.Core.List.{List, _++_}
 use Rattle.text.specs.Bytes.{bytes}
 use Rattle.text.specs.Decimal.{decimal}
 use Rattle.at.specs.Binary.{Tried, notBinary, tried}
-use Rattle.at.specs.Walk.{Step, one, end, refusedAt, Walk, eventThen, ended, stopped}
+use Rattle.at.specs.Walk.{Step, one, end, refusedAt, Walk, eventThen, thenEnd, thenRefused}
 use Rattle.render.specs.Refusal.{refusedLine}
 use Rattle.render.specs.Event.{cases36, eventLine, answerLine}
 
@@ -17,12 +17,12 @@ placeLine p = bytes " @" ++ decimal p
 
 -- an event with the place just past it, the end, or a refusal with the place where the refused event begins
 abbrev pub stepLine : List ℕ → Step → List ℕ
-stepLine src (one r vs past) = eventLine cases36 src r vs ++ placeLine past
+stepLine src (one e past) = eventLine cases36 src e ++ placeLine past
 stepLine src end = bytes "end"
 stepLine src (refusedAt n p) = refusedLine n ++ placeLine p
 
 -- every step, with a semicolon between two
 unfoldable pub walkLine : List ℕ → Walk → List ℕ
-walkLine src (eventThen r vs past w) = stepLine src (one r vs past) ++ bytes " ; " ++ walkLine src w
-walkLine src ended = stepLine src end
-walkLine src (stopped n p) = stepLine src (refusedAt n p)
+walkLine src (eventThen e past w) = stepLine src (one e past) ++ bytes " ; " ++ walkLine src w
+walkLine src thenEnd = stepLine src end
+walkLine src (thenRefused n p) = stepLine src (refusedAt n p)

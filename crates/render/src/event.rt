@@ -11,13 +11,12 @@ use at::table::kinds_at;
 use text::bytes::part;
 ghost use mathlib.Core.Path.{_≡_};
 ghost use mathlib.Core.List.{List};
-ghost use Prim.Native.Nat.{_<_};
-ghost use lib.ListN.{length, getD};
-ghost use Rattle.at.specs.Event.{Row, text};
-ghost use Rattle.at.specs.Parts.{valueOf, valuesOf, together};
+ghost use lib.ListN.{getD};
+ghost use Rattle.at.specs.Event.{Row, Event, text};
+ghost use Rattle.at.specs.Parts.{valueOf, valuesOf, Apart};
 ghost use Rattle.render.specs.Print.{Prints};
 ghost use Rattle.render.specs.Words.{numberWord, wordOf, valuesLine};
-ghost use Rattle.render.specs.Event.{Case, outcomeLine};
+ghost use Rattle.render.specs.Event.{Case, eventLine};
 ghost use Rattle.render.specs.Steps.{Cased, kindOf, kindsIn};
 
 // A number by the letter of its kind.
@@ -81,7 +80,7 @@ pub(crate) fn parts_line(
     names: &[u8],
     p: Parts,
 ) -> usize
-    ensures { λ r. ⌜ ((rows : List Row) (cases : List Case) → Cased rows cases (now (table .entry)) (now (names .entry)) → p .row < length rows → Prints (now (buf .entry)) at (outcomeLine cases (now (src .entry)) (together rows p)) r (now (buf .exit))) ⌝ }
+    ensures { λ r. ⌜ ((rows : List Row) (cases : List Case) (e : Event) → Cased rows cases (now (table .entry)) (now (names .entry)) → Apart rows e p → Prints (now (buf .entry)) at (eventLine cases (now (src .entry)) e) r (now (buf .exit))) ⌝ }
 {
     let next = name(buf, at, names, p.row);
     values(buf, next, src, kinds_at(table, p.row), p)

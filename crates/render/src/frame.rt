@@ -22,7 +22,7 @@ ghost use Rattle.at.specs.W26.{eventOf};
 ghost use Rattle.edm.specs.Packet.{packetOf, shown};
 ghost use Rattle.render.specs.Print.{Prints};
 ghost use Rattle.render.specs.Words.{valuesLine};
-ghost use Rattle.render.specs.Event.{cases26, outcomeLine};
+ghost use Rattle.render.specs.Event.{cases26, eventLine};
 ghost use Rattle.render.specs.Response.{responseLine};
 ghost use Rattle.render.specs.Frame.{packetLine, frameLine};
 
@@ -67,7 +67,7 @@ fn at_response(buf: &mut [u8], at: usize, src: &[u8], a: ATResponse) -> usize
 }
 
 fn at_event(buf: &mut [u8], at: usize, src: &[u8], e: ATEvent) -> usize
-    ensures { λ r. ⌜ Prints (now (buf .entry)) at (bytes "ATEvent " ++ outcomeLine cases26 (now (src .entry)) (eventOf e)) r (now (buf .exit)) ⌝ }
+    ensures { λ r. ⌜ Prints (now (buf .entry)) at (bytes "ATEvent " ++ eventLine cases26 (now (src .entry)) (eventOf e)) r (now (buf .exit)) ⌝ }
 {
     let next = word(buf, at, b"ATEvent ");
     w26_event(buf, next, src, e)

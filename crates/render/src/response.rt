@@ -6,7 +6,7 @@ use at::response::ATResponse;
 use at::response::ResponseAnswer;
 ghost use Rattle.at.specs.Response.{responseOf, shown};
 ghost use Rattle.render.specs.Print.{Prints};
-ghost use Rattle.render.specs.Response.{responseLine};
+ghost use Rattle.render.specs.Response.{responseLine, responseAnswerLine};
 
 pub(crate) fn response(buf: &mut [u8], at: usize, src: &[u8], a: ATResponse) -> usize
     ensures { λ r. ⌜ Prints (now (buf .entry)) at (responseLine (now (src .entry)) (responseOf a)) r (now (buf .exit)) ⌝ }
@@ -19,7 +19,7 @@ pub(crate) fn response(buf: &mut [u8], at: usize, src: &[u8], a: ATResponse) -> 
 }
 
 pub fn answer(buf: &mut [u8], at: usize, src: &[u8], a: ResponseAnswer) -> usize
-    ensures { λ r. ⌜ Prints (now (buf .entry)) at (responseLine (now (src .entry)) (shown a)) r (now (buf .exit)) ⌝ }
+    ensures { λ r. ⌜ Prints (now (buf .entry)) at (responseAnswerLine (now (src .entry)) (shown a)) r (now (buf .exit)) ⌝ }
 {
     match a {
         ResponseAnswer::Response(r) => response(buf, at, src, r),

@@ -7,10 +7,10 @@ use at::w26::parts;
 use at::w26::rows;
 ghost use Rattle.at.specs.W26.{eventOf, shown};
 ghost use Rattle.render.specs.Print.{Prints};
-ghost use Rattle.render.specs.Event.{cases26, outcomeLine, answerLine};
+ghost use Rattle.render.specs.Event.{cases26, eventLine, answerLine};
 
 pub(crate) fn event(buf: &mut [u8], at: usize, src: &[u8], e: ATEvent) -> usize
-    ensures { λ r. ⌜ Prints (now (buf .entry)) at (outcomeLine cases26 (now (src .entry)) (eventOf e)) r (now (buf .exit)) ⌝ }
+    ensures { λ r. ⌜ Prints (now (buf .entry)) at (eventLine cases26 (now (src .entry)) (eventOf e)) r (now (buf .exit)) ⌝ }
 {
     let names = b"\x00\x0fPeerConnectedIP\
         \x01\x10PeerDisconnected\

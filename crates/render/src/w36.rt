@@ -17,10 +17,10 @@ ghost use Rattle.at.specs.Walk as walk;
 ghost use Rattle.render.specs.Refusal.{refusedLine};
 ghost use Rattle.render.specs.Walk.{placeLine, triedLine, stepLine};
 ghost use Rattle.render.specs.Print.{Prints};
-ghost use Rattle.render.specs.Event.{cases36, outcomeLine, answerLine};
+ghost use Rattle.render.specs.Event.{cases36, eventLine, answerLine};
 
 fn event(buf: &mut [u8], at: usize, src: &[u8], e: ATEvent) -> usize
-    ensures { λ r. ⌜ Prints (now (buf .entry)) at (outcomeLine cases36 (now (src .entry)) (eventOf e)) r (now (buf .exit)) ⌝ }
+    ensures { λ r. ⌜ Prints (now (buf .entry)) at (eventLine cases36 (now (src .entry)) (eventOf e)) r (now (buf .exit)) ⌝ }
 {
     let names = b"\x00\x0fSocketConnected\
         \x01\x0cSocketClosed\
@@ -61,7 +61,7 @@ pub fn binary_answer(buf: &mut [u8], at: usize, src: &[u8], a: BinaryAnswer) -> 
 }
 
 fn event_up_to(buf: &mut [u8], at: usize, src: &[u8], e: ATEvent, past: usize) -> usize
-    ensures { λ r. ⌜ Prints (now (buf .entry)) at (outcomeLine cases36 (now (src .entry)) (eventOf e) ++ placeLine past) r (now (buf .exit)) ⌝ }
+    ensures { λ r. ⌜ Prints (now (buf .entry)) at (eventLine cases36 (now (src .entry)) (eventOf e) ++ placeLine past) r (now (buf .exit)) ⌝ }
 {
     let next = event(buf, at, src, e);
     place_after(buf, next, past)

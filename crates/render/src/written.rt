@@ -8,7 +8,8 @@ use text::bytes::part;
 ghost use Rattle.edm.specs.Command as frames;
 ghost use Rattle.writer.specs.Write as events;
 ghost use Rattle.render.specs.Print.{Prints};
-ghost use Rattle.render.specs.Written.{wroteLine, eventWrittenLine, frameWrittenLine};
+ghost use Rattle.render.specs.Refusal.{refusedLine, frameRefusedLine};
+ghost use Rattle.render.specs.Written.{wroteLine, writtenLine};
 
 // How many bytes were written, and they.
 fn wrote(buf: &mut [u8], at: usize, target: &[u8], n: usize) -> usize
@@ -21,7 +22,7 @@ fn wrote(buf: &mut [u8], at: usize, target: &[u8], n: usize) -> usize
 }
 
 pub fn frame(buf: &mut [u8], at: usize, target: &[u8], a: edm::WriteAnswer) -> usize
-    ensures { λ r. ⌜ Prints (now (buf .entry)) at (frameWrittenLine (now (target .entry)) (frames.shown a)) r (now (buf .exit)) ⌝ }
+    ensures { λ r. ⌜ Prints (now (buf .entry)) at (writtenLine frameRefusedLine (now (target .entry)) (frames.shown a)) r (now (buf .exit)) ⌝ }
 {
     match a {
         edm::WriteAnswer::Wrote(n) => wrote(buf, at, target, n),
@@ -30,7 +31,7 @@ pub fn frame(buf: &mut [u8], at: usize, target: &[u8], a: edm::WriteAnswer) -> u
 }
 
 pub fn event(buf: &mut [u8], at: usize, target: &[u8], a: writer::WriteAnswer) -> usize
-    ensures { λ r. ⌜ Prints (now (buf .entry)) at (eventWrittenLine (now (target .entry)) (events.shown a)) r (now (buf .exit)) ⌝ }
+    ensures { λ r. ⌜ Prints (now (buf .entry)) at (writtenLine refusedLine (now (target .entry)) (events.shown a)) r (now (buf .exit)) ⌝ }
 {
     match a {
         writer::WriteAnswer::Wrote(n) => wrote(buf, at, target, n),

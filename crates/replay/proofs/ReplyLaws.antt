@@ -1,4 +1,4 @@
--- Laws of answers: what a writer left in its buffer as a line, an event of the code is no refusal, and which lines are notes, and a CR at the end.
+-- Laws of answers: what a writer left in its buffer as a line, which lines are notes, and a CR at the end.
 use Prim.Native.Nat.{ℕ, _+_, _-_, _≤_, _<_}
 use mathlib.Core.Path.{_≡_, refl, _∙_}
 use mathlib.Core.Logic.{_⊎_, inl, inr}
@@ -11,20 +11,11 @@ use lib.ListN.{length, take, drop, getD, drop-of-length-le, length-take, length-
 use lib.Seq.{drop-cons, take-all, take-length, take-append-seam}
 use borrow.Author.Tests.{ne-eqb}
 use Rattle.text.specs.Bytes.{bytes, same, part, every}
-use Rattle.at.specs.Event.{Outcome, event, refusal, upTo}
-use Rattle.at.specs.W26 as w26
-use Rattle.at.specs.W36 as w36
-use Rattle.at.specs.declared.w26.ATEvent as at26
-use Rattle.at.specs.declared.w26.ATEvent.the-variants as ev
-use Rattle.at.specs.declared.w36.ATEvent as at36
-use Rattle.at.specs.Walk.{stepFrom}
-use Rattle.at.proofs.WalkLaws.{event-step}
-use Rattle.edm.specs.Command as command
-use Rattle.edm.specs.declared.WriteAnswer as sent
-use Rattle.writer.specs.Write as write
-use Rattle.writer.specs.declared.WriteAnswer as written
-use Rattle.render.specs.Written.{wroteLine, eventWrittenLine, frameWrittenLine}
-use Rattle.replay.specs.Reply.{sentLine, writtenLine, againReply, withoutCr}
+use Rattle.at.specs.Refusal.{OrRefused, good, refused}
+use Rattle.at.specs.Written.{answerTo, after}
+use Rattle.render.specs.Written.{wroteLine}
+use Rattle.render.specs.Written as render
+use Rattle.replay.specs.Reply.{writtenLine, withoutCr}
 
 -- What was written is at the start of the buffer
 
@@ -32,49 +23,10 @@ wrote-start : (f rest : List ℕ) → wroteLine (f ++ rest) (length f) ≡ wrote
 unfolding part
 wrote-start f rest = rw (take-append-seam f rest, take-length f)
 
-pub frame-written : (buf : List ℕ) (w : command.Written) (r : sent.WriteAnswer) (exit : List ℕ) → command.Writes buf w r exit
-    → frameWrittenLine exit (command.shown r) ≡ sentLine w
-frame-written buf (command.bytes f) r exit p = rw (p .answers, p .leaves) (wrote-start f (drop (length f) buf))
-frame-written buf (command.refused n) r exit p = rw (p .answers)
-
-pub event-written : (buf : List ℕ) (w : write.Written) (r : written.WriteAnswer) (exit : List ℕ) → write.Writes buf w r exit
-    → eventWrittenLine exit (write.shown r) ≡ writtenLine w
-event-written buf (write.line l) r exit p = rw (p .answers, p .leaves) (wrote-start l (drop (length l) buf))
-event-written buf (write.refused n) r exit p = rw (p .answers)
-
--- An event of the code is no refusal
-
-abbrev pub isEvent : Outcome → Bool
-isEvent (event r vs) = true
-isEvent (refusal n) = false
-
-pub is-event-26 : (e : at26.ATEvent) → isEvent (w26.eventOf e) ≡ true
-is-event-26 (ev.PeerConnectedIP h is6 p la lp ra rp) = refl
-is-event-26 (ev.PeerDisconnected h) = refl
-is-event-26 (ev.WifiLinkConnected c b n) = refl
-is-event-26 (ev.WifiLinkDisconnected c r) = refl
-is-event-26 (ev.WifiAccessPointUp i) = refl
-is-event-26 (ev.WifiAccessPointDown i) = refl
-is-event-26 (ev.WifiAccessPointStationConnected i m) = refl
-is-event-26 (ev.WifiAccessPointStationDisconnected i) = refl
-is-event-26 ev.EthernetLinkUp = refl
-is-event-26 ev.EthernetLinkDown = refl
-is-event-26 (ev.NetworkUp i) = refl
-is-event-26 (ev.NetworkDown i) = refl
-is-event-26 (ev.NetworkError i c) = refl
-
-pub is-event-36 : (e : at36.ATEvent) → isEvent (w36.eventOf e) ≡ true
-is-event-36 e = go (w36.eventOf e) (event-step 0 1 0 e)
-  where
-    -- what steps alike from two places is no refusal
-    go : (o : Outcome) → stepFrom 0 (upTo 0 o) ≡ stepFrom 1 (upTo 0 o) → isEvent o ≡ true
-    go (event r vs) alike = refl
-    go (refusal n) alike = let z : _≡_ {A = ℕ} 0 1 = cc in absurd (omega arith)
-
--- so it is written again
-pub again-event : (size : ℕ) (s : List ℕ) (past : ℕ) (o : Outcome) → isEvent o ≡ true → againReply size s (upTo past o) ≡ writtenLine (write.toWrite size s o)
-again-event size s past (event r vs) e = refl
-again-event size s past (refusal n) e = let z : _≡_ {A = ℕ} 0 1 = cc in absurd (omega arith)
+pub written-line : (refusal : ℕ → List ℕ) (buf : List ℕ) (w : OrRefused (List ℕ)) (a : OrRefused ℕ) (exit : List ℕ) → a ≡ answerTo w → exit ≡ after buf w
+    → render.writtenLine refusal exit a ≡ writtenLine refusal w
+written-line refusal buf (good s) a exit p q = rw (p, q) (wrote-start s (drop (length s) buf))
+written-line refusal buf (refused n) a exit p q = rw p
 
 -- A line of nothing but spaces and tabs, byte by byte
 

@@ -10,7 +10,8 @@ use lib.ListN.{length, getD, length-append}
 use borrow.Author.Tests.{leb-true}
 use Rattle.text.specs.Bytes.{bytes, part}
 use Rattle.text.specs.Decimal.{decimal}
-use Rattle.at.specs.Event.{Answer, eventTo, noEvent}
+use Rattle.at.specs.Refusal.{OrRefused, good, refused}
+use Rattle.at.specs.Event.{ReadEvent, eventTo, event}
 use Rattle.at.specs.Line.{readLine}
 use Rattle.at.specs.W26.{w26}
 use Rattle.at.specs.Walk.{readEither}
@@ -21,6 +22,7 @@ use Rattle.edm.proofs.CommandLaws.{framed, frame-length}
 use Rattle.writer.specs.Line.{contentsOf, lineOf}
 use Rattle.writer.specs.Write as write
 use Rattle.render.specs.Words.{hexOf, valuesLine}
+use Rattle.render.specs.Refusal.{refusedLine, frameRefusedLine}
 use Rattle.render.specs.Written.{wroteLine}
 use Rattle.render.proofs.WordLengths.{refused-room, frame-refused-room, decimal-within, data-place}
 use Rattle.render.proofs.LineRoom.{w26-room, w36-room, binary-room}
@@ -33,7 +35,7 @@ use Rattle.replay.specs.declared.question.Writer.{Writer}
 use Rattle.replay.specs.declared.question.Writer.the-variants as writer
 use Rattle.replay.specs.Hex.{Spelt, spells, noHex, bytesIn}
 use Rattle.replay.specs.Question.{Asked, reads, writes, resends, nothing, asked}
-use Rattle.replay.specs.Reply.{readReply, sentLine, writtenLine, wholeOf, packetReply, againReply, writeReply, sizedReply, tooLong, what, ofBytes, replyTo, isNote, withoutCr, shortReply, replyLine, lineReply}
+use Rattle.replay.specs.Reply.{readReply, writtenLine, wholeOf, packetReply, againReply, writeReply, sizedReply, tooLong, what, ofBytes, replyTo, isNote, withoutCr, shortReply, replyLine, lineReply}
 use Rattle.replay.proofs.HexRoom.{bytesOf, bytes-spelt, hexAsked, asked-shorter}
 use Rattle.replay.proofs.ReplyLaws.{without-shorter}
 
@@ -61,24 +63,24 @@ wrote-room f h =
 packet-room : (size : ℕ) (s : List ℕ) (p : EdmPacket) → length (packetReply size s p) ≤ 475135
 packet-room size s p = go (command.toWrite size s p) refl
   where
-    go : (w : command.Written) → command.toWrite size s p ≡ w → length (sentLine w) ≤ 475135
-    go (command.bytes f) e =
+    go : (w : OrRefused (List ℕ)) → command.toWrite size s p ≡ w → length (writtenLine frameRefusedLine w) ≤ 475135
+    go (good f) e =
         let x = framed size s p f e in
         wrote-room f (rw (x .frames) (omega (arith, frame-length (x .id) (x .payload), x .short)))
-    go (command.refused n) e = omega (arith, frame-refused-room n)
+    go (refused n) e = omega (arith, frame-refused-room n)
 
 -- an event that is written again is no longer than the buffer
-again-room : (size : ℕ) (s : List ℕ) (a : Answer) → size ≤ 131072 → length (againReply size s a) ≤ 475135
+again-room : (size : ℕ) (s : List ℕ) (a : OrRefused ReadEvent) → size ≤ 131072 → length (againReply size s a) ≤ 475135
 unfolding write.toWrite
-again-room size s (eventTo r vs past) h =
+again-room size s (good (eventTo (event r vs) past)) h =
     let l = lineOf r (contentsOf s vs) in
     go (write.writable s r vs) l (leb (length l) size) refl
   where
-    go : (w : Bool) (l : List ℕ) (k : Bool) → leb (length l) size ≡ k → length (writtenLine (cond w (cond k (write.line l) (write.refused 18)) (write.refused 17))) ≤ 475135
+    go : (w : Bool) (l : List ℕ) (k : Bool) → leb (length l) size ≡ k → length (writtenLine refusedLine (cond w (cond k (good l) (refused 18)) (refused 17))) ≤ 475135
     go true l true e = wrote-room l (omega (arith, leb-true (length l) size e))
     go true l false e = omega (arith, refused-room 18)
     go false l k e = omega (arith, refused-room 17)
-again-room size s (noEvent n) h = omega (arith, refused-room n)
+again-room size s (refused n) h = omega (arith, refused-room n)
 
 write-room : (w : Writer) (size : ℕ) (s : List ℕ) → size ≤ 131072 → length (writeReply w size s) ≤ 475135
 write-room (writer.Data c) size s h = packet-room size s (packet.DataCommand (record { 0 = c }) (wholeOf s))

@@ -4,10 +4,7 @@ use Prim.Native.Char.{code}
 use mathlib.Core.List.{List, [], _∷_, _++_}
 use mathlib.Core.Bool.{Bool, cond, _&&_}
 use lib.Dec.{eqb, leb, ltb}
-use lib.ListN.{take}
 use Rattle.text.specs.Bytes.{bytes, same}
-use Rattle.replay.specs.declared.decode.Decoded.{Decoded}
-use Rattle.replay.specs.declared.decode.Decoded.the-variants as decoded
 
 -- the value of a digit, or 16 for any other byte
 abbrev pub digitOf : ℕ → ℕ
@@ -41,8 +38,3 @@ someBytes noHex = noHex
 
 unfoldable pub bytesIn : List ℕ → Spelt
 bytesIn s = cond (same s (bytes "-")) (spells []) (someBytes (pairs s))
-
--- what the code's answer says: how many bytes it left at the start of a buffer
-abbrev pub spelt : List ℕ → Decoded → Spelt
-spelt buf (decoded.Bytes n) = spells (take n buf)
-spelt buf decoded.Refused = noHex

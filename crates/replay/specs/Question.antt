@@ -12,17 +12,12 @@ use lib.ListN.{length, take, drop}
 use Rattle.text.specs.Bytes.{bytes, same}
 use Rattle.text.specs.Find.{firstOf}
 use Rattle.text.specs.Number.{Num, some, none, digitsFrom}
-use Rattle.replay.specs.declared.decode.Number.{Number}
-use Rattle.replay.specs.declared.decode.Number.the-variants as number
 use Rattle.replay.specs.declared.question.Reader.{Reader}
 use Rattle.replay.specs.declared.question.Reader.the-variants as reader
 use Rattle.replay.specs.declared.question.Writer.{Writer}
 use Rattle.replay.specs.declared.question.Writer.the-variants as writer
 use Rattle.replay.specs.declared.question.Kind.{Kind}
 use Rattle.replay.specs.declared.question.Kind.the-variants as kind
-use Rattle.replay.specs.declared.question.Sized as code
-use Rattle.replay.specs.declared.question.Question.{Question}
-use Rattle.replay.specs.declared.question.Question.the-variants as question
 
 pub data Word : Type 0 where
   _asks_ : String → Kind → Word
@@ -63,10 +58,6 @@ capped none = none
 unfoldable pub numberIn : List ℕ → Num
 numberIn [] = none
 numberIn (b ∷ s) = capped (digitsFrom 0 (b ∷ s))
-
-abbrev pub numberOf : Number → Num
-numberOf (number.Value n) = some n
-numberOf number.Refused = none
 
 -- a number up to the first space, and what follows that
 pub data Sized : Type 0 where
@@ -120,14 +111,3 @@ byWord whole = nothing
 
 unfoldable pub asked : List ℕ → Asked
 asked line = byWord (atSpace line)
-
--- what the code's answers say of a line: their places count from its start
-abbrev pub sizedOf : List ℕ → code.Sized → Sized
-sizedOf line (code.the-variants.Number value next) = sized value (drop next line)
-sizedOf line code.the-variants.Nothing = unsized
-
-abbrev pub askedOf : List ℕ → Question → Asked
-askedOf line (question.Read r from) = reads r (drop from line)
-askedOf line (question.Write w size from) = writes w size (drop from line)
-askedOf line (question.Resend size) = resends size
-askedOf line question.Nothing = nothing

@@ -7,7 +7,8 @@ use lib.ListN.{length, take, drop}
 use Rattle.text.specs.Bytes.{bytes, same, startsWith, every}
 use Rattle.text.specs.Decimal.{decimal}
 use Rattle.at.specs.declared.Text.{Text}
-use Rattle.at.specs.Event.{event, Answer, eventTo, noEvent}
+use Rattle.at.specs.Refusal.{OrRefused, good, refused}
+use Rattle.at.specs.Event.{Event, ReadEvent, eventTo}
 use Rattle.at.specs.Line.{readLine}
 use Rattle.at.specs.Binary.{tryRows}
 use Rattle.at.specs.Response.{readResponse}
@@ -22,7 +23,7 @@ use Rattle.writer.specs.Write as write
 use Rattle.render.specs.Event.{cases26, cases36}
 use Rattle.render.specs.Event as render
 use Rattle.render.specs.Refusal.{refusedLine, frameRefusedLine}
-use Rattle.render.specs.Response.{responseLine}
+use Rattle.render.specs.Response.{responseAnswerLine}
 use Rattle.render.specs.Frame.{frameLine}
 use Rattle.render.specs.Walk.{triedLine, walkLine}
 use Rattle.render.specs.Written.{wroteLine}
@@ -40,28 +41,27 @@ readReply reader.W26 s = render.answerLine cases26 s (readLine w26 0 s)
 readReply reader.W36 s = render.answerLine cases36 s (readLine w36 0 s)
 readReply reader.Binary s = triedLine s (tryRows binaryTable 0 s)
 readReply reader.Walk36 s = walkLine s (walk s)
-readReply reader.Response s = responseLine s (readResponse 0 s)
+readReply reader.Response s = responseAnswerLine s (readResponse 0 s)
 
--- what was written, or the refusal
-abbrev pub sentLine : command.Written → List ℕ
-sentLine (command.bytes f) = wroteLine f (length f)
-sentLine (command.refused n) = frameRefusedLine n
-
-abbrev pub writtenLine : write.Written → List ℕ
-writtenLine (write.line l) = wroteLine l (length l)
-writtenLine (write.refused n) = refusedLine n
+-- what was written, or the refusal, whose line is `refusal`
+abbrev pub writtenLine : (ℕ → List ℕ) → OrRefused (List ℕ) → List ℕ
+writtenLine refusal (good w) = wroteLine w (length w)
+writtenLine refusal (refused n) = refusal n
 
 -- the place of all of the bytes s
 abbrev pub wholeOf : List ℕ → Text
 wholeOf s = record { start = 0; len = length s }
 
 abbrev pub packetReply : ℕ → List ℕ → EdmPacket → List ℕ
-packetReply size s p = sentLine (command.toWrite size s p)
+packetReply size s p = writtenLine frameRefusedLine (command.toWrite size s p)
+
+abbrev pub eventReply : ℕ → List ℕ → Event → List ℕ
+eventReply size s e = writtenLine refusedLine (write.toWrite size s e)
 
 -- an event that was read from s, written again
-abbrev pub againReply : ℕ → List ℕ → Answer → List ℕ
-againReply size s (eventTo r vs past) = writtenLine (write.toWrite size s (event r vs))
-againReply size s (noEvent n) = refusedLine n
+abbrev pub againReply : ℕ → List ℕ → OrRefused ReadEvent → List ℕ
+againReply size s (good (eventTo e past)) = eventReply size s e
+againReply size s (refused n) = refusedLine n
 
 -- the bytes s, written into a buffer of a size: a command made of them, or the event that they hold
 abbrev pub writeReply : Writer → ℕ → List ℕ → List ℕ

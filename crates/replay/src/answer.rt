@@ -17,20 +17,19 @@ use render::word::number;
 use render::word::word;
 use text::bytes::part;
 use text::bytes::starts_at;
-ghost use Prim.Native.Nat.{ℕ, _*_, _≤_};
+ghost use Prim.Native.Nat.{_*_, _≤_};
 ghost use mathlib.Core.Path.{_≡_};
 ghost use mathlib.Core.Bool.{_||_};
 ghost use lib.Dec.{eqb};
 ghost use lib.ListN.{length};
 ghost use Rattle.text.specs.Bytes.{every};
-ghost use Rattle.at.specs.Event.{upTo};
 ghost use Rattle.at.specs.Line.{readLine};
 ghost use Rattle.at.specs.W26.{w26};
 ghost use Rattle.at.specs.W36.{w36, eventOf};
 ghost use Rattle.at.specs.Walk.{readEither};
 ghost use Rattle.render.specs.Print.{Prints};
 ghost use Rattle.replay.specs.Hex.{bytesIn};
-ghost use Rattle.replay.specs.Reply.{readReply, packetReply, againReply, writeReply, sizedReply, what as whatLine, ofBytes, isNote, shortReply};
+ghost use Rattle.replay.specs.Reply.{readReply, packetReply, eventReply, againReply, writeReply, sizedReply, what as whatLine, ofBytes, isNote, shortReply};
 
 fn read(output: &mut [u8], place: usize, src: &[u8], reader: Reader) -> usize
     ensures { λ r. ⌜ Prints (now (output .entry)) place (readReply reader (now (src .entry))) r (now (output .exit)) ⌝ }
@@ -74,7 +73,7 @@ fn write36(
     src: &[u8],
     e: at::w36::ATEvent,
 ) -> usize
-    ensures { λ r. ⌜ ((past : ℕ) → Prints (now (output .entry)) place (againReply (length (now (target .entry))) (now (src .entry)) (upTo past (eventOf e))) r (now (output .exit))) ⌝ }
+    ensures { λ r. ⌜ Prints (now (output .entry)) place (eventReply (length (now (target .entry))) (now (src .entry)) (eventOf e)) r (now (output .exit)) ⌝ }
 {
     let a = writer::w36::write(target, src, e);
     render::written::event(output, place, target, a)

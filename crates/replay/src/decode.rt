@@ -3,9 +3,9 @@ use text::bytes::same;
 ghost use Prim.Native.Nat.{_+_, _*_, _≤_, _<_, min};
 ghost use mathlib.Core.Path.{_≡_};
 ghost use lib.ListN.{length};
-ghost use Rattle.replay.specs.Hex.{digitOf, pairs as pairsIn, bytesIn, spelt};
-ghost use Rattle.replay.specs.Question.{numberIn, numberOf};
-ghost use Rattle.replay.specs.Steps.{Roomy};
+ghost use Rattle.replay.specs.Hex.{digitOf, pairs as pairsIn, bytesIn};
+ghost use Rattle.replay.specs.Question.{numberIn};
+ghost use Rattle.replay.specs.Steps.{spelt, Roomy, numberOf};
 
 // How many bytes were put, or that the text spells none.
 pub(crate) enum Decoded {

@@ -7,7 +7,8 @@ use text::find::Found;
 use text::find::first_byte;
 ghost use mathlib.Core.Path.{_≡_};
 ghost use lib.ListN.{drop};
-ghost use Rattle.replay.specs.Question.{words, kindOf, numberIn, numberThen, sizedOf, withSize, withSizeAndChannel, withSizeAlone, asked, askedOf};
+ghost use Rattle.replay.specs.Question.{words, kindOf, numberIn, numberThen, withSize, withSizeAndChannel, withSizeAlone, asked};
+ghost use Rattle.replay.specs.Steps.{sizedOf, askedOf};
 
 pub(crate) enum Reader {
     Frame,

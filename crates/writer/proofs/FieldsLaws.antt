@@ -13,7 +13,7 @@ use Rattle.text.proofs.PutAppend.{after-append}
 use Rattle.text.specs.Field.{join}
 use Rattle.text.specs.Put.{placed, after}
 use Rattle.at.specs.Event.{Value, num}
-use Rattle.writer.specs.Line.{plain, contentOf, contentsOf, written, behindName}
+use Rattle.writer.specs.Line.{plain, contentOf, contentsOf, written, afterName}
 use Rattle.writer.specs.Steps.{fieldTexts}
 use Rattle.writer.specs.Write.{writableField, writableFields}
 
@@ -27,10 +27,10 @@ unfolding join separated
 joined f [] = sym (append-nil f)
 joined f (g ∷ fs) = rw (joined g fs)
 
-pub behind-separated : (fs : List (List ℕ)) → behindName fs ≡ separated 58 fs
-unfolding behindName separated
-behind-separated [] = refl
-behind-separated (f ∷ fs) = rw (joined f fs)
+pub after-separated : (fs : List (List ℕ)) → afterName fs ≡ separated 58 fs
+unfolding afterName separated
+after-separated [] = refl
+after-separated (f ∷ fs) = rw (joined f fs)
 
 -- the byte in front of the field with this number: a colon (58) in front of the first
 abbrev pub separator : ℕ → ℕ
@@ -40,9 +40,9 @@ separator i = cond (eqb i 0) 58 44
 unfoldable pub from : List (List ℕ) → ℕ → List ℕ
 from fs i = separated (separator i) (drop i fs)
 
-pub from-first : (fs : List (List ℕ)) → from fs 0 ≡ behindName fs
+pub from-first : (fs : List (List ℕ)) → from fs 0 ≡ afterName fs
 unfolding from
-from-first fs = sym (behind-separated fs)
+from-first fs = sym (after-separated fs)
 
 pub from-next : (fs : List (List ℕ)) (i : ℕ) (d : List ℕ) → i < length fs → from fs i ≡ separator i ∷ (getD fs i d ++ from fs (i + 1))
 unfolding from separated

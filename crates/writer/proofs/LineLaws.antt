@@ -13,10 +13,8 @@ use Rattle.text.proofs.PutAppend.{after-append}
 use Rattle.text.specs.Bytes.{part}
 use Rattle.text.specs.Find.{crlf}
 use Rattle.text.specs.Put.{after}
-use Rattle.at.specs.Event.{Row, nameOf, kindsOf, Value, num, place}
-use Rattle.at.specs.Line.{hit}
-use Rattle.at.specs.Parts.{withRow}
-use Rattle.writer.specs.Line.{plain, contentOf, contentsOf, written, behindName, ending, lineWith, lineOf}
+use Rattle.at.specs.Event.{Row, nameOf, kindsOf, Value, num, place, event}
+use Rattle.writer.specs.Line.{plain, contentOf, contentsOf, written, afterName, ending, lineWith, lineOf}
 use Rattle.writer.specs.Steps.{fieldTexts, lineAs, writeAs, SmallData}
 use Rattle.writer.specs.Write.{writableFields, writableData, writableEnd, writable, toWrite}
 
@@ -53,28 +51,28 @@ module _ (src : List ℕ) (n : ℕ) (vs : List Value) where
       small v (and-right (writableFields true src (take n vs)) (writableData src v) (sym (writable-data h) ∙ e))
 
   module _ (name : List ℕ) where
-    pub line-length : length (lineAs src name n vs) ≡ 2 + length name + length (behindName (fieldTexts src n vs)) + length (ending (drop n (contentsOf src vs)))
+    pub line-length : length (lineAs src name n vs) ≡ 2 + length name + length (afterName (fieldTexts src n vs)) + length (ending (drop n (contentsOf src vs)))
     line-length =
         let head = crlf ++ name in
-        let behind = behindName (fieldTexts src n vs) in
-        length-append (head ++ behind) (ending (drop n (contentsOf src vs))) ∙ rw (length-append head behind) (omega arith)
+        let later = afterName (fieldTexts src n vs) in
+        length-append (head ++ later) (ending (drop n (contentsOf src vs))) ∙ rw (length-append head later) (omega arith)
 
     -- the head, the fields and the end, put one after the other, are the line
     pub line-put : (b : List ℕ) → length (lineAs src name n vs) ≤ length b
-        → after (after (after (after b 0 crlf) 2 name) (2 + length name) (behindName (fieldTexts src n vs))) (2 + length name + length (behindName (fieldTexts src n vs))) (ending (drop n (contentsOf src vs)))
+        → after (after (after (after b 0 crlf) 2 name) (2 + length name) (afterName (fieldTexts src n vs))) (2 + length name + length (afterName (fieldTexts src n vs))) (ending (drop n (contentsOf src vs)))
         ≡ after b 0 (lineAs src name n vs)
     line-put b fits =
         let head = crlf ++ name in
-        let behind = behindName (fieldTexts src n vs) in
+        let later = afterName (fieldTexts src n vs) in
         let end = ending (drop n (contentsOf src vs)) in
         let l = line-length in
         let h : 2 + length name ≡ 0 + length head = omega arith in
-        let m : 2 + length name + length behind ≡ 0 + length (head ++ behind) = omega (arith, length-append head behind) in
-        let room : 0 + length (head ++ behind) + length end ≤ length b = omega (arith, length-append head behind) in
+        let m : 2 + length name + length later ≡ 0 + length (head ++ later) = omega (arith, length-append head later) in
+        let room : 0 + length (head ++ later) + length end ≤ length b = omega (arith, length-append head later) in
         let first : after (after b 0 crlf) 2 name ≡ after b 0 head = after-append b 0 crlf name (omega arith) in
-        let second : after (after b 0 head) (2 + length name) behind ≡ after b 0 (head ++ behind)
-        = ap (λ (k : ℕ). after (after b 0 head) k behind) h ∙ after-append b 0 head behind (omega arith) in
-        rw (first, second) (ap (λ (k : ℕ). after (after b 0 (head ++ behind)) k end) m ∙ after-append b 0 (head ++ behind) end room)
+        let second : after (after b 0 head) (2 + length name) later ≡ after b 0 (head ++ later)
+        = ap (λ (k : ℕ). after (after b 0 head) k later) h ∙ after-append b 0 head later (omega arith) in
+        rw (first, second) (ap (λ (k : ℕ). after (after b 0 (head ++ later)) k end) m ∙ after-append b 0 (head ++ later) end room)
 
 -- the fields are as many as the row has kinds, or all values where there are fewer
 cut : {A : Type 0} (k n m : ℕ) (xs : List A) → length xs ≡ m → n ≡ min k m → (take n xs ≡ take k xs) × (drop n xs ≡ drop k xs)
@@ -95,6 +93,6 @@ write-cut room src name k n vs e =
     rw (v .0, v .1, c .0, c .1)
 
 -- what is written by a row's name and the number of its kinds is what is written by the row
-pub row-write : (room : ℕ) (src : List ℕ) (r : Row) (vs : List Value) → writeAs room src (nameOf r) (length (kindsOf r)) vs ≡ toWrite room src (withRow (hit r) vs)
+pub row-write : (room : ℕ) (src : List ℕ) (r : Row) (vs : List Value) → writeAs room src (nameOf r) (length (kindsOf r)) vs ≡ toWrite room src (event r vs)
 unfolding toWrite writable lineOf lineWith
 row-write room src r vs = rw (append-nil (fieldTexts src (length (kindsOf r)) vs))

@@ -5,9 +5,10 @@ use mathlib.Core.Bool.{cond}
 use lib.Dec.{leb}
 use lib.ListN.{length, take, drop, getD}
 use Rattle.text.specs.Find.{crlf}
+use Rattle.at.specs.Refusal.{OrRefused, refused}
 use Rattle.at.specs.Event.{Value, num}
-use Rattle.writer.specs.Line.{contentOf, contentsOf, written, behindName, ending}
-use Rattle.writer.specs.Write.{writableEnd, Written, refused, fitted}
+use Rattle.writer.specs.Line.{contentOf, contentsOf, written, afterName, ending}
+use Rattle.writer.specs.Write.{writableEnd, fitted}
 use Rattle.writer.specs.declared.room.Room.{Room}
 use Rattle.writer.specs.declared.room.Room.the-variants as room
 
@@ -17,9 +18,9 @@ fieldTexts src n vs = map written (take n (contentsOf src vs))
 
 -- the line of a name and its values, and what is to be written of it
 abbrev pub lineAs : List ℕ → List ℕ → ℕ → List Value → List ℕ
-lineAs src name n vs = crlf ++ name ++ behindName (fieldTexts src n vs) ++ ending (drop n (contentsOf src vs))
+lineAs src name n vs = crlf ++ name ++ afterName (fieldTexts src n vs) ++ ending (drop n (contentsOf src vs))
 
-abbrev pub writeAs : ℕ → List ℕ → List ℕ → ℕ → List Value → Written
+abbrev pub writeAs : ℕ → List ℕ → List ℕ → ℕ → List Value → OrRefused (List ℕ)
 writeAs size src name n vs = cond (writableEnd src (take n vs) (drop n vs)) (fitted size (lineAs src name n vs)) (refused 17)
 
 -- the data, where there are any, have a length of two bytes

@@ -20,10 +20,11 @@ ghost use Prim.Native.Nat.{_+_, _≤_, _<_, min};
 ghost use lib.Dec.{leb};
 ghost use lib.ListN.{length, take, drop};
 ghost use Rattle.text.specs.Put.{after};
-ghost use Rattle.at.specs.Event.{Row};
-ghost use Rattle.at.specs.Table.{Tabled};
+ghost use Rattle.at.specs.Refusal.{good};
+ghost use Rattle.at.specs.Event.{Row, Event};
+ghost use Rattle.at.specs.Steps.{Tabled};
 ghost use Rattle.at.specs.Parts.{valuesOf, together};
-ghost use Rattle.writer.specs.Line.{behindName, ending, contentsOf};
+ghost use Rattle.writer.specs.Line.{afterName, ending, contentsOf};
 ghost use Rattle.writer.specs.Write.{writableFields, writableEnd, toWrite, Writes};
 ghost use Rattle.writer.specs.Steps.{fieldTexts, lineAs, writeAs, roomOf, roomAfter, SmallData};
 
@@ -57,9 +58,9 @@ fn writable(src: &[u8], p: Parts, n: usize) -> bool
 }
 
 // The room after the fields, each with the colon or comma in front of it.
-fn room_behind_fields(src: &[u8], p: Parts, n: usize, room: usize) -> Room
+fn room_after_fields(src: &[u8], p: Parts, n: usize, room: usize) -> Room
     requires { ⌜ n ≤ length (valuesOf p) ⌝ }
-    ensures { λ r. ⌜ roomOf r ≡ roomAfter room (length (behindName (fieldTexts (now (src .entry)) n (valuesOf p)))) ⌝ }
+    ensures { λ r. ⌜ roomOf r ≡ roomAfter room (length (afterName (fieldTexts (now (src .entry)) n (valuesOf p)))) ⌝ }
 {
     let mut left = room;
     let mut i = 0;
@@ -81,26 +82,26 @@ fn fits(src: &[u8], name: &[u8], p: Parts, n: usize, room: usize) -> bool
     requires { ⌜ n ≤ length (valuesOf p) ⌝ }
     ensures { λ r. ⌜ r ≡ leb (length (lineAs (now (src .entry)) (now (name .entry)) n (valuesOf p))) room ⌝ }
 {
-    let Room::Left(behind_head) = less(room, 2 + name.len()) else {
+    let Room::Left(after_head) = less(room, 2 + name.len()) else {
         return false;
     };
-    let Room::Left(behind_fields) = room_behind_fields(src, p, n, behind_head) else {
+    let Room::Left(after_fields) = room_after_fields(src, p, n, after_head) else {
         return false;
     };
     if n < value_count(p) {
-        let Room::Left(behind_marker) = less(behind_fields, 3) else {
+        let Room::Left(after_marker) = less(after_fields, 3) else {
             return false;
         };
-        item_len(src, value_at(p, n)) <= behind_marker
+        item_len(src, value_at(p, n)) <= after_marker
     } else {
-        2 <= behind_fields
+        2 <= after_fields
     }
 }
 
 // The fields at a place of the buffer, each after its colon or comma; the place after them.
 fn put_fields(buf: &mut [u8], at: usize, src: &[u8], p: Parts, n: usize) -> usize
-    requires { ⌜ (n ≤ length (valuesOf p)) × (at + length (behindName (fieldTexts (now src) n (valuesOf p))) ≤ length (now buf)) ⌝ }
-    ensures { λ r. ⌜ (r ≡ at + length (behindName (fieldTexts (now (src .entry)) n (valuesOf p)))) × (now (buf .exit) ≡ after (now (buf .entry)) at (behindName (fieldTexts (now (src .entry)) n (valuesOf p)))) ⌝ }
+    requires { ⌜ (n ≤ length (valuesOf p)) × (at + length (afterName (fieldTexts (now src) n (valuesOf p))) ≤ length (now buf)) ⌝ }
+    ensures { λ r. ⌜ (r ≡ at + length (afterName (fieldTexts (now (src .entry)) n (valuesOf p)))) × (now (buf .exit) ≡ after (now (buf .entry)) at (afterName (fieldTexts (now (src .entry)) n (valuesOf p)))) ⌝ }
 {
     let mut k = at;
     let mut i = 0;
@@ -169,7 +170,7 @@ fn field_count(p: Parts, kinds: usize) -> usize
 
 // The line of the event in these parts, by the table of its radio.
 pub(crate) fn write_parts(buf: &mut [u8], src: &[u8], table: &[u8], p: Parts) -> WriteAnswer
-    ensures { λ r. ⌜ ((rows : List Row) → Tabled rows (now (table .entry)) → p .row < length rows → Writes (now (buf .entry)) (toWrite (length (now (buf .entry))) (now (src .entry)) (together rows p)) r (now (buf .exit))) ⌝ }
+    ensures { λ r. ⌜ ((rows : List Row) (e : Event) → Tabled rows (now (table .entry)) → p .row < length rows → together rows p ≡ good e → Writes (now (buf .entry)) (toWrite (length (now (buf .entry))) (now (src .entry)) e) r (now (buf .exit))) ⌝ }
 {
     let n = field_count(p, kinds_at(table, p.row).len());
     write_line(buf, src, name_at(table, p.row), p, n)

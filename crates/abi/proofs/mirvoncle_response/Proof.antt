@@ -1,5 +1,4 @@
 -- `mirvoncle_response` meets its contract by that of `at::response::read`. Assumes nothing.
-use Rattle.abi.proofs.CodeLaws.{response-code}
 use borrow.Author.Needs.{needs}
 use Rattle.abi.proofs.mirvoncle_response.Statement.{statement}
 use Rattle.abi.proofs.mirvoncle_response.Tie as tie
@@ -17,7 +16,7 @@ at-number-requires : tie.Need-at-number-requires
 at-number-requires c κs = search needs
 
 returns : tie.Need-returns
-returns c = rw (← c .before .before .read .ensures, c .enum-told .given .1) (response-code (c .enum-told .given .0 .0))
+returns c = rw (← c .before .before .read .ensures, c .enum-told .given .1)
 
 returns-2 : tie.Need-returns-2
 returns-2 c = rw (← c .before .before .before .before .read .ensures, c .before .before .e .given .1) (c .at-number .ensures)

@@ -1,5 +1,4 @@
 -- `mirvoncle_w36_binary` meets its contract by that of `at::w36::try_parse_binary`. Assumes nothing.
-use Rattle.abi.proofs.CodeLaws.{event-code36}
 use borrow.Author.Needs.{needs}
 use Rattle.abi.proofs.mirvoncle_w36_binary.Statement.{statement}
 use Rattle.abi.proofs.mirvoncle_w36_binary.Tie as tie
@@ -20,7 +19,7 @@ at-number-requires : tie.Need-at-number-requires
 at-number-requires c κs = search needs
 
 returns : tie.Need-returns
-returns c = rw (← c .before .before .try-parse-binary .ensures, c .enum-told .given .1) (event-code36 (c .enum-told .given .0 .1 .0) (c .enum-told .given .0 .0))
+returns c = rw (← c .before .before .try-parse-binary .ensures, c .enum-told .given .1)
 
 returns-2 : tie.Need-returns-2
 returns-2 c = rw (← c .before .before .try-parse-binary .ensures, c .enum-told2 .given .1)

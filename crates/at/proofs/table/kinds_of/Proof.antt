@@ -4,9 +4,10 @@ use mathlib.Core.Path.{_≡_, refl, _∙_}
 use mathlib.Core.List.{List, _∷_}
 use native.Mathlib.Omega.{arith}
 use lib.ListN.{length, drop}
+use Rattle.at.specs.Refusal.{good}
 use Rattle.at.specs.Event.{Row}
-use Rattle.at.specs.Line.{hit}
-use Rattle.at.specs.Table.{lettersOf, Tabled}
+use Rattle.at.specs.Table.{lettersOf}
+use Rattle.at.specs.Steps.{Tabled}
 use Rattle.at.specs.Parts.{rowNo}
 use Rattle.at.proofs.TableLaws.{sized, no-row, Stands, stands, seven, letters-taken}
 use borrow.Author.Needs.{needs}
@@ -20,7 +21,7 @@ returns c = (
 )
 
 listed : (c : tie.After-wide) (rows : List Row) → Tabled rows (c .before .before .before .before .before .before .before .before .before .before .before .args .table .now)
-    → (r : Row) × (rowNo rows (c .before .before .before .before .before .before .before .before .before .before .before .args .row) ≡ hit r) × (drop (c .before .before .before .before .before .before .before .before .before .before .before .args .row) rows ≡ r ∷ drop (suc (c .before .before .before .before .before .before .before .before .before .before .before .args .row)) rows) × Stands (c .before .before .before .before .before .before .before .before .before .before .before .args .table .now) (c .before .before .before .before .before .before .before .before .before .before .before .args .row) r
+    → (r : Row) × (rowNo rows (c .before .before .before .before .before .before .before .before .before .before .before .args .row) ≡ good r) × (drop (c .before .before .before .before .before .before .before .before .before .before .before .args .row) rows ≡ r ∷ drop (suc (c .before .before .before .before .before .before .before .before .before .before .before .args .row)) rows) × Stands (c .before .before .before .before .before .before .before .before .before .before .before .args .table .now) (c .before .before .before .before .before .before .before .before .before .before .before .args .row) r
 listed c rows t = stands rows _ _ t (omega (arith, sized rows _ t, c .before .before .before .before .before .before .before .before .before .if1 .left))
 
 returns-2 : tie.Need-returns-2

@@ -6,9 +6,10 @@ use native.Mathlib.Numerals.{add-one}
 use native.Mathlib.Omega.{arith}
 use lib.ListN.{length, drop, getD, drop-of-length-le}
 use Rattle.text.specs.Bytes.{same}
+use Rattle.at.specs.Refusal.{good}
 use Rattle.at.specs.Event.{Row, nameOf}
-use Rattle.at.specs.Line.{hit, search as rowNamed}
-use Rattle.at.specs.Table.{Tabled}
+use Rattle.at.specs.Line.{search as rowNamed}
+use Rattle.at.specs.Steps.{Tabled}
 use Rattle.at.specs.Parts.{rowNo}
 use Rattle.at.proofs.LineLaws.{row-found, row-passed}
 use Rattle.at.proofs.TableLaws.{sized, Stands, stands, held}
@@ -26,7 +27,7 @@ abbrev Table : tie.In-loop Inv-loop μ-loop → List ℕ
 Table c = c .before .before .before .before .args .table .now
 
 abbrev Named : tie.In-loop Inv-loop μ-loop → List Row → Type 0
-Named c rows = (r : Row) × (rowNo rows (c .before .loop .row) ≡ hit r) × (drop (c .before .loop .row) rows ≡ r ∷ drop (suc (c .before .loop .row)) rows) × Stands (Table c) (c .before .loop .row) r
+Named c rows = (r : Row) × (rowNo rows (c .before .loop .row) ≡ good r) × (drop (c .before .loop .row) rows ≡ r ∷ drop (suc (c .before .loop .row)) rows) × Stands (Table c) (c .before .loop .row) r
 
 -- the row at the place
 here : (c : tie.In-loop Inv-loop μ-loop) (rows : List Row) → Tabled rows (Table c) → Named c rows

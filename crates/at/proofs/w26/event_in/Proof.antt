@@ -1,10 +1,10 @@
 -- `w26::event_in` meets its contract: its bytes are those of the rows, whose letters say their kinds. Assumes nothing.
 use mathlib.Core.Path.{_≡_, sym, ap, _∙_}
 use lib.ListN.{drop}
+use Rattle.at.specs.Refusal.{refused}
 use Rattle.at.specs.Event.{upTo}
-use Rattle.at.specs.Line.{miss, search as rowNamed, readText}
-use Rattle.at.specs.Table.{Tabled}
-use Rattle.at.specs.Steps.{outcomeBy, Finds}
+use Rattle.at.specs.Line.{search as rowNamed, readText}
+use Rattle.at.specs.Steps.{Tabled, outcomeBy, Finds}
 use Rattle.at.specs.W26.{table}
 use Rattle.at.specs.declared.table.Named.the-variants.{Row}
 use Rattle.at.proofs.LineLaws.{text-read}
@@ -32,7 +32,7 @@ unknown : tie.Need-returns
 unknown c =
     let part = c .before .before .before in
     let head = part .before .before .head-of .ensures in
-    ap (upTo (c .before .before .before .before .before .before .before .before .args .past)) (text-read table _ _ _ miss _ (part .part .ensures ∙ head .0) (sym (rw (c .enum-told .given .1) at (c .before .before .row-of .ensures table (bytes (part .before .before .before))))) (head .1))
+    ap (upTo (c .before .before .before .before .before .before .before .before .args .past)) (text-read table _ _ _ (refused 16) _ (part .part .ensures ∙ head .0) (sym (rw (c .enum-told .given .1) at (c .before .before .row-of .ensures table (bytes (part .before .before .before))))) (head .1))
 
 event : tie.Need-returns-2
 event c =

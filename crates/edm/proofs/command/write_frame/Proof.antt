@@ -10,7 +10,7 @@ use Rattle.text.proofs.put.put.Reads as put-reads
 
 -- src/command.rt:27:9
 returns : tie.Need-returns
-returns c = let a = c .before .before .before .before .before .args in refused-parts _ _ (now (a .before)) (now (a .body)) (now (a .behind)) (λ h. omega arith)
+returns c = let a = c .before .before .before .before .before .args in refused-parts _ _ (now (a .before)) (now (a .body)) (now (a .tail)) (λ h. omega arith)
 
 -- src/command.rt:29:13
 add-n : tie.Need-add-n
@@ -22,7 +22,7 @@ add-n-2 c = search needs
 
 -- src/command.rt:31:9
 returns-2 : tie.Need-returns-2
-returns-2 c = let a = c .before .before .before .before .before .before .args in refused-parts _ _ (now (a .before)) (now (a .body)) (now (a .behind)) (λ h. omega arith)
+returns-2 c = let a = c .before .before .before .before .before .before .args in refused-parts _ _ (now (a .before)) (now (a .body)) (now (a .tail)) (λ h. omega arith)
 
 -- src/command.rt:33:8
 sub-if3 : tie.Need-sub-if3
@@ -30,7 +30,7 @@ sub-if3 c = search needs
 
 -- src/command.rt:34:9
 returns-3 : tie.Need-returns-3
-returns-3 c = let a = c .before .before .before .before .before .before .before .args in refused-parts _ _ (now (a .before)) (now (a .body)) (now (a .behind)) (λ h. omega arith)
+returns-3 c = let a = c .before .before .before .before .before .before .before .args in refused-parts _ _ (now (a .before)) (now (a .body)) (now (a .tail)) (λ h. omega arith)
 
 -- src/command.rt:36:18
 add-length : tie.Need-add-length
@@ -108,7 +108,7 @@ returns-4 c =
     let start = tested .before .before .before .before .before .before .before in
     let a = start .args in
     record {
-      answers = wrote-parts (now (a .buf)) (a .identifier) (now (a .before)) (now (a .body)) (now (a .behind)) (omega (arith, tested)) (omega (arith, tested));
+      answers = wrote-parts (now (a .buf)) (a .identifier) (now (a .before)) (now (a .body)) (now (a .tail)) (omega (arith, tested)) (omega (arith, tested));
       leaves =
           left-parts _ _ _ _ _ (omega (arith, tested)) (omega (arith, tested)) (omega (arith, start)) _ _ _ _ _
           (first .put .ensures .1) (second .put2 .ensures .1) (third .put3 .ensures .1) (fourth .put4 .ensures .1) (fifth .put5 .ensures .1);

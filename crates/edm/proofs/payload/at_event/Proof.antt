@@ -1,7 +1,6 @@
 -- `payload::at_event` meets its contract by that of `at::w26::read`. Assumes nothing.
 use mathlib.Core.Path.{sym}
 use borrow.Author.Needs.{needs}
-use Rattle.edm.proofs.FrameLaws.{event-packet}
 use Rattle.edm.proofs.payload.at_event.Statement.{statement}
 use Rattle.edm.proofs.payload.at_event.Tie as tie
 
@@ -21,7 +20,7 @@ returns : tie.Need-returns
 returns c = rw (← c .before .before .before .read .ensures) (c .event-refused .ensures)
 
 returns-2 : tie.Need-returns-2
-returns-2 c = rw (← c .before .before .before .read .ensures, c .before .a .given .1) (sym (event-packet (c .before .a .given .0 .1 .0) (c .before .a .given .0 .0)))
+returns-2 c = rw (← c .before .before .before .read .ensures, c .before .a .given .1)
 
 pub at-event-spec : {M : Type 1} → statement M
 at-event-spec =

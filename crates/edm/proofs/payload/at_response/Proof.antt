@@ -1,7 +1,6 @@
 -- `payload::at_response` meets its contract by that of `at::response::read`. Assumes nothing.
 use mathlib.Core.Path.{sym}
 use borrow.Author.Needs.{needs}
-use Rattle.edm.proofs.FrameLaws.{response-packet}
 use Rattle.edm.proofs.payload.at_response.Statement.{statement}
 use Rattle.edm.proofs.payload.at_response.Tie as tie
 
@@ -21,7 +20,7 @@ returns : tie.Need-returns
 returns c = rw (← c .before .before .before .read .ensures) (c .response-refused .ensures)
 
 returns-2 : tie.Need-returns-2
-returns-2 c = rw (← c .before .before .before .read .ensures, c .before .a .given .1) (sym (response-packet (c .before .a .given .0 .0)))
+returns-2 c = rw (← c .before .before .before .read .ensures, c .before .a .given .1)
 
 pub at-response-spec : {M : Type 1} → statement M
 at-response-spec =

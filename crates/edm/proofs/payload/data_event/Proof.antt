@@ -1,4 +1,4 @@
--- `payload::data_event` meets its contract: what stands behind the channel is the data. Assumes nothing.
+-- `payload::data_event` meets its contract: what stands after the channel is the data. Assumes nothing.
 use Prim.Native.Nat.{_-_}
 use mathlib.Core.Path.{_≡_}
 use native.Mathlib.Omega.{arith}

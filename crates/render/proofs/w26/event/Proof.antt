@@ -11,16 +11,12 @@ use Rattle.render.proofs.w26.event.Tie as tie
 
 returns : tie.Need-returns
 returns c =
-    let parts = c .before .before .before .parts .ensures in
-    rw (← parts .whole)
-    (c .before .before .parts-line .ensures
-    table
-    cases26
+    c .before .before .parts-line .ensures table cases26 _
     (record {
       tabled = record { spells = c .before .before .before .before .before .before .before .rows .ensures; rooms = roomy-w26 };
       names-spelled = unfold table UUDPC UUDPD UUWLE UUWLD UUWAPU UUWAPD UUWAPSTAC UUWAPSTAD UUETHLU UUETHLD UUNU UUND UUNERR same cases26 caseOf spelled numbered in refl;
     })
-    (parts .listed))
+    (c .before .before .before .parts .ensures)
 
 pub event-spec : {M : Type 1} → statement M
 event-spec = tie.close (tie.spec (λ c κs. search needs) (λ c. search needs) (λ c κs. search needs) (λ c κs. search needs) (λ c. search needs) returns)

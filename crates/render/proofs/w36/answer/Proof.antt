@@ -1,11 +1,10 @@
 -- `w36::answer` meets its contract. Assumes nothing.
-use Rattle.render.proofs.StepLaws.{line-up-to}
 use borrow.Author.Needs.{needs}
 use Rattle.render.proofs.w36.answer.Statement.{statement}
 use Rattle.render.proofs.w36.answer.Tie as tie
 
 returns : tie.Need-returns
-returns c = rw (c .before .before .before .before .before .a .given .1, line-up-to) (c .before .before .event .ensures)
+returns c = rw (c .before .before .before .before .before .a .given .1) (c .before .before .event .ensures)
 
 returns-2 : tie.Need-returns-2
 returns-2 c = rw (c .before .before .before .before .before .a2 .given .1) (c .before .before .of-at .ensures)

@@ -11,16 +11,12 @@ use Rattle.render.proofs.w36.event.Tie as tie
 
 returns : tie.Need-returns
 returns c =
-    let parts = c .before .before .before .parts .ensures in
-    rw (← parts .whole)
-    (c .before .before .parts-line .ensures
-    rows36
-    cases36
+    c .before .before .parts-line .ensures rows36 cases36 _
     (record {
       tabled = record { spells = c .before .before .before .before .before .before .before .rows .ensures; rooms = roomy-w36 .1 };
       names-spelled = unfold table binaryTable rows36 UESOC UESOCL UESODA UEWLU UEWLD UEWAPSA UEWAPSDA UEWAPU UEWAPD UEWSNU UEWSND UEWAPNU UEWAPND UESODB UESODBF same cases36 caseOf spelled numbered in refl;
     })
-    (parts .listed))
+    (c .before .before .before .parts .ensures)
 
 pub event-spec : {M : Type 1} → statement M
 event-spec = tie.close (tie.spec (λ c κs. search needs) (λ c. search needs) (λ c κs. search needs) (λ c κs. search needs) (λ c. search needs) returns)

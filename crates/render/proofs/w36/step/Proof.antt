@@ -1,11 +1,10 @@
 -- `w36::step` meets its contract. Assumes nothing.
-use Rattle.render.proofs.StepLaws.{line-step}
 use borrow.Author.Needs.{needs}
 use Rattle.render.proofs.w36.step.Statement.{statement}
 use Rattle.render.proofs.w36.step.Tie as tie
 
 returns : tie.Need-returns
-returns c = rw (c .before .before .before .before .before .s .given .1, line-step) (c .before .before .event-up-to .ensures)
+returns c = rw (c .before .before .before .before .before .s .given .1) (c .before .before .event-up-to .ensures)
 
 returns-2 : tie.Need-returns-2
 returns-2 c = rw (c .before .before .before .before .before .enum-told .given .1) (c .before .before .word .ensures)

@@ -1,6 +1,6 @@
 -- `again26` meets its contract.
-use Rattle.at.specs.W26.{eventOf}
-use Rattle.replay.proofs.ReplyLaws.{event-written, is-event-26, again-event}
+use Rattle.render.specs.Refusal.{refusedLine}
+use Rattle.replay.proofs.ReplyLaws.{written-line}
 use borrow.Author.Needs.{needs}
 use Rattle.replay.proofs.answer.again26.Statement.{statement}
 use Rattle.replay.proofs.answer.again26.Tie as tie
@@ -8,8 +8,8 @@ use Rattle.replay.proofs.answer.again26.Tie as tie
 returns : tie.Need-returns
 returns c = let near = c .before .before .before .before .before .before in
     let far = near .before .before .before .before .before .before in
-    let e = near .before .before .before .before .e .given in
-    rw (← far .read .ensures, e .1, again-event _ _ (e .0 .1 .0) (eventOf (e .0 .0)) (is-event-26 (e .0 .0)), ← event-written _ _ _ _ (near .before .write .ensures)) (c .before .before .event .ensures)
+    let wrote = near .before .write .ensures in
+    rw (← far .read .ensures, near .before .before .before .before .e .given .1, ← written-line refusedLine _ _ _ _ (wrote .answers) (wrote .leaves)) (c .before .before .event .ensures)
 
 returns-2 : tie.Need-returns-2
 returns-2 c = rw (← c .before .before .before .before .before .before .before .read .ensures, c .before .before .before .before .before .e2 .given .1) (c .before .before .of-at .ensures)

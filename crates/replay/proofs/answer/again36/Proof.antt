@@ -7,7 +7,7 @@ use Rattle.replay.proofs.answer.again36.Tie as tie
 returns : tie.Need-returns
 unfolding readEither
 returns c = let near = c .before .before .before .before .before .before in
-    rw (← near .before .before .before .before .try-parse-binary .ensures, near .before .before .e .given .1) (c .before .before .before .before .write36 .ensures (near .before .before .e .given .0 .1 .0))
+    rw (← near .before .before .before .before .try-parse-binary .ensures, near .before .before .e .given .1) (c .before .before .before .before .write36 .ensures)
 
 returns-2 : tie.Need-returns-2
 unfolding readEither

@@ -5,7 +5,7 @@ use Rattle.replay.proofs.answer.again36_text.Tie as tie
 
 returns : tie.Need-returns
 returns c = let near = c .before .before .before .before .before .before in
-    rw (← near .before .before .before .before .read .ensures, near .before .before .e .given .1) (c .before .before .before .before .write36 .ensures (near .before .before .e .given .0 .1 .0))
+    rw (← near .before .before .before .before .read .ensures, near .before .before .e .given .1) (c .before .before .before .before .write36 .ensures)
 
 returns-2 : tie.Need-returns-2
 returns-2 c = rw (← c .before .before .before .before .before .before .before .read .ensures, c .before .before .before .before .before .e2 .given .1) (c .before .before .of-at .ensures)

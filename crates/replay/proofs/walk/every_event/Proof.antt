@@ -12,7 +12,6 @@ use Rattle.at.proofs.WalkLaws.{event-moves}
 use Rattle.render.specs.Print.{Prints}
 use Rattle.render.specs.Walk.{walkLine}
 use Rattle.render.proofs.PrintLaws.{prints-then}
-use Rattle.replay.proofs.ReplyLaws.{is-event-36}
 use Rattle.replay.proofs.WalkLaws.{walk-event, walk-ended, walk-refused}
 use borrow.Author.Needs.{needs}
 use Rattle.replay.proofs.walk.every_event.Statement.{statement}
@@ -42,8 +41,7 @@ loop-again c = let near = c .before .before .before .before .before .before in
     let l = far .before .loop in
     let s = far .before .before .before .before .before .args .src .now in
     let got = near .step2 .given in
-    let q = got .0 .1 .0 .at in
-    let line = walk-event s (l .walk .at) q (eventOf (got .0 .0)) (is-event-36 (got .0 .0)) (ap shown (sym (got .1)) ∙ far .next .ensures) in
+    let line = walk-event s (l .walk .at) (eventOf (got .0 .0)) (got .0 .1 .0 .at) (ap shown (sym (got .1)) ∙ far .next .ensures) in
     let printed = rw (got .1) at (near .before .before .before .before .step .ensures) in (
       c .before .before .word .kept .0 ∙ near .before .before .before .before .step .kept .0 ∙ l .inv .0,
       λ r e h. l .inv .1 r e (rw line (prints-then (prints-then printed (c .before .before .word .ensures)) h)),

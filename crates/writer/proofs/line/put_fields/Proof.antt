@@ -9,7 +9,7 @@ use Prim.Native.Nat.{ℕ, _+_, _-_, _≤_}
 use native.Mathlib.Omega.{arith}
 use lib.ListN.{length}
 use Rattle.text.specs.Put.{after}
-use Rattle.writer.specs.Line.{contentOf, written, behindName}
+use Rattle.writer.specs.Line.{contentOf, written, afterName}
 use Rattle.at.specs.Parts.{valueOf, valuesOf}
 use Rattle.writer.specs.Steps.{fieldTexts}
 use Rattle.writer.proofs.FieldsLaws.{from, from-first, separator, fields-next, fields-length, fields-end, after-nothing, after-turn}
@@ -18,8 +18,8 @@ use Rattle.writer.proofs.line.put_fields.Tie as tie
 
 abbrev Inv-loop : tie.InvT-loop
 Inv-loop buf₀ at src p n k₀ i₀ buf k i =
-    (i ≤ n) × (length buf ≡ length buf₀) × (k + length (from (fieldTexts src n (valuesOf p)) i) ≡ at + length (behindName (fieldTexts src n (valuesOf p))))
-    × (after buf k (from (fieldTexts src n (valuesOf p)) i) ≡ after buf₀ at (behindName (fieldTexts src n (valuesOf p))))
+    (i ≤ n) × (length buf ≡ length buf₀) × (k + length (from (fieldTexts src n (valuesOf p)) i) ≡ at + length (afterName (fieldTexts src n (valuesOf p))))
+    × (after buf k (from (fieldTexts src n (valuesOf p)) i) ≡ after buf₀ at (afterName (fieldTexts src n (valuesOf p))))
 
 abbrev μ-loop : tie.MeasureT-loop
 μ-loop buf₀ at src p n k₀ i₀ buf k i = n - i

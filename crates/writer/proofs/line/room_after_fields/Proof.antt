@@ -1,4 +1,4 @@
--- `line::room_behind_fields` meets its contract. The invariant: what is left of the room after the fields is what is left of `left` after those
+-- `line::room_after_fields` meets its contract. The invariant: what is left of the room after the fields is what is left of `left` after those
 -- from `i` on. Assumes nothing.
 use borrow.Author.Needs.{needs}
 use mathlib.Core.List.{List, []}
@@ -7,15 +7,15 @@ use Prim.Native.Nat.{ℕ, _+_, _-_, _≤_}
 use native.Mathlib.Omega.{arith}
 use lib.ListN.{length}
 use Rattle.at.specs.Parts.{valueOf, valuesOf}
-use Rattle.writer.specs.Line.{behindName}
+use Rattle.writer.specs.Line.{afterName}
 use Rattle.writer.specs.Steps.{fieldTexts, roomAfter}
 use Rattle.writer.proofs.FieldsLaws.{from, from-first, from-next, texts-count, fields-length, fields-end}
-use Rattle.writer.proofs.RoomLaws.{room-whole, room-behind, room-over}
-use Rattle.writer.proofs.line.room_behind_fields.Statement.{statement}
-use Rattle.writer.proofs.line.room_behind_fields.Tie as tie
+use Rattle.writer.proofs.RoomLaws.{room-whole, room-after, room-over}
+use Rattle.writer.proofs.line.room_after_fields.Statement.{statement}
+use Rattle.writer.proofs.line.room_after_fields.Tie as tie
 
 abbrev Inv-loop : tie.InvT-loop
-Inv-loop src p n room left₀ i₀ left i = (i ≤ n) × (roomAfter room (length (behindName (fieldTexts src n (valuesOf p)))) ≡ roomAfter left (length (from (fieldTexts src n (valuesOf p)) i)))
+Inv-loop src p n room left₀ i₀ left i = (i ≤ n) × (roomAfter room (length (afterName (fieldTexts src n (valuesOf p)))) ≡ roomAfter left (length (from (fieldTexts src n (valuesOf p)) i)))
 
 abbrev μ-loop : tie.MeasureT-loop
 μ-loop src p n room left₀ i₀ left i = n - i
@@ -70,10 +70,10 @@ loop-less c = omega arith
 loop-again : tie.Need-loop-again Inv-loop μ-loop
 loop-again c =
     let start = c .before .before .before .before .before .before .before in
-    let behind : ℕ = length (from (fieldTexts (start .args .src .now) (start .args .n) (valuesOf (start .args .p))) (c .before .before .before .before .before .loop .i + 1)) in
+    let later : ℕ = length (from (fieldTexts (start .args .src .now) (start .args .n) (valuesOf (start .args .p))) (c .before .before .before .before .before .loop .i + 1)) in
     let taken : ℕ = 1 + c .before .item-len .result in
     let l : c .before .before .before .before .before .loop .left - taken ≡ c .before .before .before .before .before .loop .left - 1 - c .before .item-len .result = omega arith in
-    (omega arith, c .before .before .before .before .before .loop .inv .1 ∙ rw (here (c .before)) (room-behind (c .before .before .before .before .before .loop .left) taken behind (omega arith) ∙ ap (λ (n : ℕ). roomAfter n behind) l))
+    (omega arith, c .before .before .before .before .before .loop .inv .1 ∙ rw (here (c .before)) (room-after (c .before .before .before .before .before .loop .left) taken later (omega arith) ∙ ap (λ (n : ℕ). roomAfter n later) l))
 
 returns-3 : tie.Need-returns-3 Inv-loop μ-loop
 returns-3 c =
@@ -81,8 +81,8 @@ returns-3 c =
     let none = fields-end (valuesOf (start .args .p)) (start .args .n) (start .pre) (start .args .src .now) (c .before .loop .i) (c .loop-test .left) in
     sym (c .before .loop .inv .1 ∙ rw none (room-whole (c .before .loop .left)))
 
-pub room-behind-fields-spec : {M : Type 1} → statement M
-room-behind-fields-spec =
+pub room-after-fields-spec : {M : Type 1} → statement M
+room-after-fields-spec =
     tie.close
     (tie.spec
     Inv-loop
