@@ -9,6 +9,7 @@ pub mod EndLaws
 pub mod BinaryLaws
 pub mod WalkLaws
 pub mod ResponseLaws
+pub mod InsideLaws
 pub mod Answers
 pub mod Refusals
 pub mod ResponseAnswers
@@ -16,6 +17,7 @@ pub mod W26Answers
 pub mod W36Answers
 pub mod WalkAnswers
 pub mod OneOutcome
+pub mod InsidePrograms
 pub mod WrongReaders
 pub mod WrongWalks
 pub mod Examples

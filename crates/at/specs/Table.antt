@@ -3,8 +3,8 @@
 use Prim.Native.Nat.{ℕ, _+_, _*_}
 use Prim.Native.Char.{code}
 use mathlib.Core.List.{List, [], _∷_, _++_, map}
-use mathlib.Core.Bool.{Bool, true, cond, _&&_}
-use lib.Dec.{eqb, leb}
+use mathlib.Core.Bool.{cond}
+use lib.Dec.{eqb}
 use lib.ListN.{length, take, getD}
 use Rattle.text.specs.Bytes.{bytes, part}
 use Rattle.at.specs.Event.{Kind, bits, text, ipType, protocol, reason, Row, nameOf, kindsOf}

@@ -18,7 +18,6 @@ use Rattle.edm.specs.Command.{frame, Command, command, inSource, request
 use Rattle.edm.specs.declared.Channel.{Channel}
 use Rattle.edm.specs.declared.EdmPacketError.{EdmPacketError}
 use Rattle.edm.specs.declared.EdmPacketError.the-variants as error
-use Rattle.edm.specs.declared.EdmPacket.{EdmPacket}
 use Rattle.edm.specs.declared.EdmPacket.the-variants as is
 use Rattle.edm.specs.declared.WriteAnswer.{WriteAnswer}
 use Rattle.edm.specs.declared.WriteAnswer.the-variants as answer

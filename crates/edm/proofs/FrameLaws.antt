@@ -4,13 +4,12 @@ use mathlib.Core.Path.{_≡_, refl, _∙_}
 use mathlib.Core.List.{List}
 use mathlib.Core.Bool.{Bool, true, false, cond}
 use native.Mathlib.Omega.{arith}
-use lib.Dec.{eqb, ltb}
+use lib.Dec.{ltb}
 use lib.ListN.{length, take, length-drop}
 use lib.Seq.{length-take-le}
 use borrow.Author.Tests.{eqb-true, ltb-false}
 use Rattle.at.specs.Refusal.{OrRefused, good, refused}
-use Rattle.edm.specs.Packet.{identifiers, carried, Packet}
-use Rattle.edm.specs.Payload.{word, readPayload}
+use Rattle.edm.specs.Packet.{Packet}
 use Rattle.edm.specs.Frame.{delimited, lengthField, payload, readFrame}
 
 -- a packet comes by the tests that refuse with 2 and 3

@@ -3,3 +3,4 @@ pub mod Packet
 pub mod Payload
 pub mod Frame
 pub mod Command
+pub mod Inside

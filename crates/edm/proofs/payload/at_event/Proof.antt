@@ -1,5 +1,4 @@
 -- `payload::at_event` meets its contract by that of `at::w26::read`. Assumes nothing.
-use mathlib.Core.Path.{sym}
 use borrow.Author.Needs.{needs}
 use Rattle.edm.proofs.payload.at_event.Statement.{statement}
 use Rattle.edm.proofs.payload.at_event.Tie as tie

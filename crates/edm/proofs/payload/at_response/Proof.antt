@@ -1,5 +1,4 @@
 -- `payload::at_response` meets its contract by that of `at::response::read`. Assumes nothing.
-use mathlib.Core.Path.{sym}
 use borrow.Author.Needs.{needs}
 use Rattle.edm.proofs.payload.at_response.Statement.{statement}
 use Rattle.edm.proofs.payload.at_response.Tie as tie

@@ -1,5 +1,4 @@
 -- `payload::event_refused` meets its contract: a refusal keeps its number. Assumes nothing.
-use mathlib.Core.Path.{sym}
 use borrow.Author.Needs.{needs}
 use Rattle.edm.proofs.payload.event_refused.Statement.{statement}
 use Rattle.edm.proofs.payload.event_refused.Tie as tie

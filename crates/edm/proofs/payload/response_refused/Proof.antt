@@ -1,5 +1,4 @@
 -- `payload::response_refused` meets its contract: a refusal keeps its number. Assumes nothing.
-use mathlib.Core.Path.{sym}
 use borrow.Author.Needs.{needs}
 use Rattle.edm.proofs.payload.response_refused.Statement.{statement}
 use Rattle.edm.proofs.payload.response_refused.Tie as tie
