@@ -16,6 +16,7 @@ pub mod ResponseAnswers
 pub mod W26Answers
 pub mod W36Answers
 pub mod WalkAnswers
+pub mod WalkRuns
 pub mod OneOutcome
 pub mod InsidePrograms
 pub mod WrongReaders
