@@ -8,7 +8,8 @@ use native.Mathlib.Omega.{arith}
 use lib.ListN.{length, getD, take, drop, set, drop-of-length-le}
 use lib.Seq.{drop-cons, take-all, getD-set-same, getD-set-other}
 use Rattle.text.specs.Bytes.{part}
-use Rattle.text.specs.Field.{Field as Part, left, nextField}
+use Rattle.text.specs.Field.{Field as Part, nextField}
+use Rattle.text.specs.FieldSteps.{left}
 use Rattle.text.specs.declared.field.Fields.{Fields}
 use Rattle.text.specs.declared.field.Next.the-variants as next
 use Rattle.at.specs.Refusal.{OrRefused, good, refused}

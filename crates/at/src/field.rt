@@ -13,7 +13,7 @@ use text::number::read16;
 use text::walk::field_at;
 ghost use mathlib.Core.Path.{_≡_};
 ghost use Prim.Native.Nat.{ℕ, _≤_};
-ghost use Rattle.text.specs.Field.{left};
+ghost use Rattle.text.specs.FieldSteps.{left};
 ghost use Rattle.at.specs.Event.{readField, takeKinds, bits, ipType, protocol, reason};
 ghost use Rattle.at.specs.Steps.{kindOf, kindsOf, Held, noField, oneOf, Took};
 

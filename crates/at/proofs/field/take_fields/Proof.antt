@@ -7,7 +7,8 @@ use native.Mathlib.Omega.{arith}
 use lib.ListN.{length, getD, take, drop, length-set}
 use lib.Seq.{getD-take, length-take-le}
 use Rattle.text.specs.Bytes.{part}
-use Rattle.text.specs.Field.{left, nextField}
+use Rattle.text.specs.Field.{nextField}
+use Rattle.text.specs.FieldSteps.{left}
 use Rattle.text.specs.declared.field.Next.the-variants as next
 use Rattle.at.specs.Event.{readField, takeKinds}
 use Rattle.at.specs.Steps.{kindOf, kindsIn, oneOf, valuesOf}
