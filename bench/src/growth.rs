@@ -52,7 +52,7 @@ series! {
         |n| filled(b"\r\n+UEWLU:0,0012F398DD12,6", b",12", b"\r\n", n);
     "w36-commas" W36 ANY "W36 line, many commas"
         |n| filled(b"\r\n+UESOC:1", b",", b"\r\n", n);
-    "w36-behind" W36 ANY "W36 line, long text behind its end"
+    "w36-after" W36 ANY "W36 line, long text after its end"
         |n| filled(b"\r\n+UESOC:1\r\n", b"\r\n+UEWSNU\r\n", b"\r\n", n);
     "w36-crs" W36 ANY "W36 field of bare CRs"
         |n| filled(b"\r\n+UEWAPSA:", b"\r", b"\r\n", n);

@@ -59,12 +59,12 @@ uint8_t mirvoncle_response(const uint8_t *s, size_t s_len);
 size_t mirvoncle_utf8_prefix(const uint8_t *s, size_t s_len);
 
 /* Writes: the frame's length, 6 to 4099, or MIRVONCLE_REFUSED plus the refusal's number. The frame stands at the start of buf and
- * the bytes behind it stay as they were; where the write is refused, all of them do. */
+ * the bytes after it stay as they were; where the write is refused, all of them do. */
 
 /* A data command: data, sent on a channel. */
 size_t mirvoncle_write_data(uint8_t *buf, size_t buf_len, uint8_t channel, const uint8_t *data, size_t data_len);
 
-/* An AT request: a text in UTF-8, behind which a CR is written. */
+/* An AT request: a text in UTF-8, after which a CR is written. */
 size_t mirvoncle_write_request(uint8_t *buf, size_t buf_len, const uint8_t *text, size_t text_len);
 
 /* The command to send the connect events again. */

@@ -11,7 +11,7 @@ pub const PANIC: &str = "PANIC";
 const COPIES_DIFFER: &str = "COPIES DIFFER";
 /// The Rust does not read the line of our event writer as the event that was written.
 const NOT_READ_BACK: &str = "NOT READ BACK";
-/// A write changed a byte that it must leave: behind its frame, or any on a refusal.
+/// A write changed a byte that it must leave: after its frame, or any on a refusal.
 const BYTE_CHANGED: &str = "BYTE CHANGED";
 
 /// What a buffer holds before a write.

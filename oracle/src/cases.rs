@@ -53,10 +53,10 @@ fn answer(text: &str) -> Option<Vec<u8>> {
     let mut line = Vec::new();
     let mut rest = text;
     while let Some((before, after)) = rest.split_once('<') {
-        let (inside, behind) = after.split_once('>')?;
+        let (inside, left) = after.split_once('>')?;
         line.extend_from_slice(before.as_bytes());
         hex::push(&mut line, &bytes(inside)?);
-        rest = behind;
+        rest = left;
     }
     line.extend_from_slice(rest.as_bytes());
     Some(line)
@@ -74,9 +74,9 @@ pub fn bytes(text: &str) -> Option<Vec<u8>> {
                 after
             }
             '{' => {
-                let (inside, behind) = after.split_once('}')?;
+                let (inside, left) = after.split_once('}')?;
                 inside.split(' ').try_for_each(|word| push_repeated(word, &mut out))?;
-                behind
+                left
             }
             _ => {
                 out.extend_from_slice(&rest.as_bytes()[..first.len_utf8()]);

@@ -18,7 +18,7 @@ fn class(answer: &str) -> String {
     answer[..end].to_string()
 }
 
-/// The class of an answer behind the kind of its question, since the radios share some names.
+/// The class of an answer after the kind of its question, since the radios share some names.
 pub fn label(question: &[u8], answer: &[u8]) -> String {
     let kind = question.split(|&b| b == b' ').next().unwrap_or(question);
     let answer = String::from_utf8_lossy(answer);

@@ -123,9 +123,9 @@ fn event_sizes(out: &mut Vec<u8>) -> Result<(), String> {
     Ok(())
 }
 
-/// Every W36 event with another behind it, so that its end is seen.
+/// Every W36 event with another after it, so that its end is seen.
 fn event_ends(out: &mut Vec<u8>) -> Result<(), String> {
-    push_heading(out, "# Every W36 event with another behind it");
+    push_heading(out, "# Every W36 event with another after it");
     for text in W36_LINES {
         record::push(out, Call::Walk36, &bytes_of(&format!("{text}~+UESOC:1~"))?);
     }

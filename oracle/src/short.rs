@@ -1,4 +1,4 @@
-//! Every string up to some length over a few symbols, bare and behind the beginnings of events.
+//! Every string up to some length over a few symbols, bare and after the beginnings of events.
 
 use crate::record::{self, Call};
 

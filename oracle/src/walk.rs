@@ -32,7 +32,7 @@ pub fn answer(bytes: &[u8], out: &mut Vec<u8>) -> Answered {
     Ok(())
 }
 
-/// A binary event ends with its data, a text event that begins at `at` with the first CR LF behind the
+/// A binary event ends with its data, a text event that begins at `at` with the first CR LF after the
 /// two bytes before its name.
 fn past(bytes: &[u8], at: usize, event: &ATEvent) -> Option<usize> {
     match event {

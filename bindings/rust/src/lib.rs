@@ -175,7 +175,7 @@ pub fn write_data(buf: &mut [u8], channel: u8, data: &[u8]) -> Result<usize, Ref
     })
 }
 
-/// Writes an AT request, with the CR behind its text; otherwise as [`write_data`].
+/// Writes an AT request, with a CR after its text; otherwise as [`write_data`].
 pub fn write_request(buf: &mut [u8], text: &str) -> Result<usize, Refusal> {
     // SAFETY: as in `write_data`.
     written(unsafe {

@@ -12,7 +12,7 @@ const EARLY: u32 = 5;
 const LENGTH: u32 = 6;
 const CUT: u32 = 7;
 
-/// An event, and now and then something behind it.
+/// An event, and now and then something after it.
 pub fn line(rng: &mut Rng, out: &mut Vec<u8>) {
     let flaws = Flaws::new(rng);
     event(rng, flaws, out);
@@ -78,7 +78,7 @@ fn push_fields(rng: &mut Rng, with_address: bool, flaws: Flaws, out: &mut Vec<u8
     }
 }
 
-/// The last comma among the fields, which begin at `start`, and what stands behind it.
+/// The last comma among the fields, which begin at `start`, and what stands after it.
 fn drop_last_comma(out: &mut Vec<u8>, start: usize) {
     if let Some(at) = out[start..].iter().rposition(|&b| b == b',') {
         out.truncate(start + at);

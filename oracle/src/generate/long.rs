@@ -1,4 +1,4 @@
-//! Inputs around the largest frame: a payload of 4,093 bytes is the last that a length can tell. And
+//! Inputs around the largest frame: a payload of 4,093 bytes is the last that a length can hold. And
 //! walks over many events.
 
 use super::{frames, walks, writes};
@@ -46,7 +46,7 @@ pub fn make(rng: &mut Rng, out: &mut Vec<u8>) -> Call {
     }
 }
 
-/// A frame whose length is right, if it can be told in 12 bits.
+/// A frame whose length is right, if 12 bits can hold it.
 fn frame(rng: &mut Rng, payload: usize, out: &mut Vec<u8>) {
     let identifier = frames::IDENTIFIERS[rng.below(frames::IDENTIFIERS.len())];
     frames::open(identifier, out);

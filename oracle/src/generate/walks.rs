@@ -6,7 +6,7 @@ use crate::rng::Rng;
 /// At most so many events of each kind.
 const MOST: usize = 3;
 
-/// Binary events stand first, as a text event is read only where all behind it is text and ends in
+/// Binary events stand first, as a text event is read only where all after it is text and ends in
 /// CR LF. One read in eight has them in any order.
 pub fn buffer(rng: &mut Rng, out: &mut Vec<u8>) {
     let (binaries, texts) = (rng.below(MOST + 1), rng.below(MOST + 1));
@@ -28,7 +28,7 @@ pub fn buffer(rng: &mut Rng, out: &mut Vec<u8>) {
 }
 
 /// One of these lines again and again, as often as it fits into `size` bytes, and at times a line end
-/// behind them that is refused. No event has a longer answer for its bytes than the first.
+/// after them that is refused. No event has a longer answer for its bytes than the first.
 pub fn repeated(rng: &mut Rng, size: usize, out: &mut Vec<u8>) {
     let lines: [&[u8]; 5] = [
         b"\r\n+UEWAPSA:\r\n",
