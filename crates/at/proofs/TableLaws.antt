@@ -18,7 +18,8 @@ use Rattle.at.specs.Line.{readNamed}
 use Rattle.at.specs.Refusal.{OrRefused, good, refused, refusalNo}
 use Rattle.at.specs.Table.{lettersOf, filled, spelledRow, spelled, nameAt, lettersAt}
 use Rattle.at.specs.Parts.{rowNo}
-use Rattle.at.specs.Steps.{roomy, Tabled, kindsIn, kindsOf, Legible, lettersIn, valuesOf, withoutRest, stopped, Took, withFields, orStopped, outcomeBy}
+use Rattle.at.specs.TableSteps.{roomy, Tabled}
+use Rattle.at.specs.Steps.{kindsIn, kindsOf, Legible, lettersIn, valuesOf, withoutRest, stopped, Took, withFields, orStopped, outcomeBy}
 use Rattle.at.specs.declared.AtPacketError.{AtPacketError}
 use Rattle.at.specs.declared.table.Kinds.{Kinds}
 use Rattle.at.specs.declared.field.Stop.{Stop}

@@ -5,7 +5,8 @@ use mathlib.Core.Bool.{true}
 use lib.ListN.{take}
 use Rattle.text.specs.Bytes.{same}
 use Rattle.at.specs.Table.{spelled}
-use Rattle.at.specs.Steps.{roomy, kindOf, Legible}
+use Rattle.at.specs.TableSteps.{roomy}
+use Rattle.at.specs.Steps.{kindOf, Legible}
 use Rattle.at.specs.W26 as w26
 use Rattle.at.specs.W36 as w36
 use Rattle.at.proofs.PartsLaws.{numberOf, firsts}

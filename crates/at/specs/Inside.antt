@@ -23,7 +23,7 @@ EventInside n (event r vs) = EachInside n vs
 abbrev pub ReadInside : ℕ → ReadEvent → Type 0
 ReadInside n (eventTo e past) = EventInside n e × (past ≤ n)
 
--- what holds of an answer that is good; a refusal has nothing that it could hold of
+-- what holds of an answer that is good; of a refusal nothing is asked
 abbrev pub IfGood : {A : Type 0} → (A → Type 0) → OrRefused A → Type 0
 IfGood P (good a) = P a
 IfGood P (refused n) = Unit {0}

@@ -3,13 +3,14 @@ use Prim.Native.Nat.{ℕ, suc, _%_, _^_, _≤_, _<_}
 use Prim.Native.Char.{code}
 use mathlib.Core.Path.{_≡_}
 use mathlib.Core.List.{List, [], _∷_, map}
-use mathlib.Core.Bool.{Bool, true, cond, _&&_}
-use lib.Dec.{eqb, leb}
+use mathlib.Core.Bool.{cond}
+use lib.Dec.{eqb}
 use lib.ListN.{length, take, drop, getD}
 use Rattle.at.specs.Refusal.{OrRefused, good, refused, refusalNo}
-use Rattle.at.specs.Event.{Kind, bits, text, ipType, protocol, reason, Row, nameOf, kindsOf as rowKinds, Value, num, place, at, Event, event, Read, values}
+use Rattle.at.specs.Event.{Kind, bits, text, ipType, protocol, reason, Row, kindsOf as rowKinds, Value, num, place, at, Event, event, Read, values}
 use Rattle.at.specs.Line.{Body, body}
-use Rattle.at.specs.Table.{lettersOf, spelled}
+use Rattle.at.specs.Table.{lettersOf}
+use Rattle.at.specs.TableSteps.{Tabled}
 use Rattle.at.specs.Parts.{rowNo}
 use Rattle.at.specs.Binary.{Data, dataAt}
 use Rattle.at.specs.W26 as w26
@@ -105,15 +106,6 @@ kindsOf k = kindsIn (take (k .count) (k .letters))
 pub record Held (k : Kinds) : Type 0 where
   pub room : length (k .letters) ≡ 7
   pub few : k .count ≤ 7
-
--- a table whose names and letters have room in a row, and its bytes
-unfoldable pub roomy : List Row → Bool
-roomy [] = true
-roomy (r ∷ rs) = leb (length (nameOf r)) 11 && leb (length (lettersOf r)) 7 && roomy rs
-
-pub record Tabled (rows : List Row) (s : List ℕ) : Type 0 where
-  pub spells : s ≡ spelled rows
-  pub rooms : roomy rows ≡ true
 
 -- the letters of a table say its kinds
 abbrev pub Legible : List Row → Type 0

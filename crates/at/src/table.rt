@@ -10,7 +10,8 @@ ghost use Rattle.at.specs.Event.{Row};
 ghost use Rattle.at.specs.Line.{search};
 ghost use Rattle.at.specs.Table.{nameAt, lettersAt};
 ghost use Rattle.at.specs.Parts.{rowNo};
-ghost use Rattle.at.specs.Steps.{Tabled, SomeTable, Finds, Held, lettersIn};
+ghost use Rattle.at.specs.TableSteps.{Tabled};
+ghost use Rattle.at.specs.Steps.{SomeTable, Finds, Held, lettersIn};
 
 fn wide(x: u8) -> usize
     ensures { λ r. ⌜ (r ≡ x) × (r < 256) ⌝ }

@@ -9,7 +9,7 @@ use denote.Triple.Clauses.{AtExit}
 use borrow.Fn.Kinds.{Dens, endedOf}
 use lib.ListN.{length, take, drop, getD}
 use lib.Seq.{take-at}
-use Rattle.text.proofs.OneOutcome.{One}
+use Rattle.text.proofs.OneOutcome.{One, distinguished}
 use Rattle.at.specs.declared.Text.{Text}
 use Rattle.edm.specs.Refusal.{refusalNo}
 use Rattle.at.specs.Written.{answerTo, after}
@@ -17,7 +17,6 @@ use Rattle.at.specs.Refusal.{OrRefused, good, refused}
 use Rattle.edm.specs.Command.{frame, Command, command, inSource, requestOf, commandOf, toWrite, shown}
 use Rattle.edm.specs.declared.Channel.{Channel}
 use Rattle.edm.specs.declared.EdmPacketError.{EdmPacketError}
-use Rattle.edm.specs.declared.EdmPacketError.the-variants as error
 use Rattle.edm.specs.declared.EdmPacket.the-variants as is
 use Rattle.edm.specs.declared.WriteAnswer.{WriteAnswer}
 use Rattle.edm.specs.declared.WriteAnswer.the-variants as answer
@@ -38,7 +37,7 @@ back (answer.Wrote n) = refl
 back (answer.Refused e) = ap answer.Refused (error-back e)
 
 pub shown-injective : (r q : WriteAnswer) → shown r ≡ shown q → r ≡ q
-shown-injective r q e = sym (back r) ∙ ap unshown e ∙ back q
+shown-injective = distinguished shown unshown back
 
 -- the answer, and every byte of the lent buffer
 pub one-data : One 2 write-data.Kinds.ps write-data.Kinds.r write-data.Reads.Post (λ κs x s. x) × One 2 write-data.Kinds.ps write-data.Kinds.r write-data.Reads.Post (λ κs x s. s .0 .now)

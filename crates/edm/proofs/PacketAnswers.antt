@@ -6,18 +6,13 @@ use native.Mathlib.Omega.{arith}
 use contract.Lifetimes.{Lfts}
 use denote.Triple.Clauses.{AtExit}
 use borrow.Fn.Kinds.{Dens, endedOf}
-use lib.ListN.{getD}
 use Rattle.text.specs.Bytes.{hex}
-use Rattle.text.proofs.OneOutcome.{One}
+use Rattle.text.proofs.OneOutcome.{One, distinguished}
 use Rattle.at.specs.Event.{Value, num, place}
-use Rattle.at.specs.Refusal.{good}
-use Rattle.at.specs.Response.{Response}
-use Rattle.at.specs.Response as response
-use Rattle.at.proofs.Answers.{distinguished}
+use Rattle.at.specs.Refusal.{OrRefused, good, refused}
+use Rattle.at.proofs.Answers.{textIn, numberAt, textAt}
+use Rattle.at.proofs.ResponseAnswers.{responseIn, response-back}
 use Rattle.at.proofs.W26Answers.{eventIn, event-back}
-use Rattle.at.specs.declared.Text.{Text}
-use Rattle.at.specs.declared.response.ATResponse.{ATResponse}
-use Rattle.at.specs.declared.response.ATResponse.the-variants as said
 use Rattle.edm.specs.Packet.{identifiers, carried, Packet, connectEvent, disconnectEvent, dataPacket, dataCommand, atRequest, atResponse, atPacket, resendPacket, startPacket, packetOf, shown}
 use Rattle.edm.specs.Payload.{readDataEvent}
 use Rattle.edm.specs.Frame.{readFrame}
@@ -27,37 +22,18 @@ use Rattle.edm.specs.declared.EdmPacket.{EdmPacket}
 use Rattle.edm.specs.declared.EdmPacket.the-variants as is
 use Rattle.edm.specs.declared.FrameAnswer.{FrameAnswer}
 use Rattle.edm.specs.declared.FrameAnswer.the-variants as answer
-use Rattle.edm.proofs.Refusals.{refusal-injective}
+use Rattle.edm.proofs.Refusals.{errorOf, error-back}
 use Rattle.edm.proofs.frame.read as read
 
-abbrev numIn : Value → ℕ
-numIn (num n) = n
-numIn (place p l) = 0
-
-abbrev textIn : Value → Text
-textIn (num n) = record { start = 0; len = 0 }
-textIn (place p l) = record { start = p; len = l }
-
-abbrev number : List Value → ℕ → ℕ
-number vs i = numIn (getD vs i (num 0))
-
-abbrev text : List Value → ℕ → Text
-text vs i = textIn (getD vs i (num 0))
-
 abbrev channel : List Value → Channel
-channel vs = record { 0 = number vs 0 }
-
-abbrev responseIn : Response → ATResponse
-responseIn (response.ok p n) = said.Ok (record { start = p; len = n })
-responseIn (response.other p n) = said.Other (record { start = p; len = n })
-responseIn response.error = said.Error
+channel vs = record { 0 = numberAt vs 0 }
 
 -- the packet that a packet of the definitions was shown from
 abbrev packetIn : Packet → EdmPacket
-packetIn (connectEvent vs) = is.ConnectEvent (channel vs) (record { protocol = number vs 1; «remote_addr» = text vs 2; «remote_port» = number vs 3; «local_addr» = text vs 4; «local_port» = number vs 5 })
+packetIn (connectEvent vs) = is.ConnectEvent (channel vs) (record { protocol = numberAt vs 1; «remote_addr» = textAt vs 2; «remote_port» = numberAt vs 3; «local_addr» = textAt vs 4; «local_port» = numberAt vs 5 })
 packetIn (disconnectEvent vs) = is.DisconnectEvent (channel vs)
-packetIn (dataPacket vs) = is.DataEvent (channel vs) (text vs 1)
-packetIn (dataCommand vs) = is.DataCommand (channel vs) (text vs 1)
+packetIn (dataPacket vs) = is.DataEvent (channel vs) (textAt vs 1)
+packetIn (dataCommand vs) = is.DataCommand (channel vs) (textAt vs 1)
 packetIn (atRequest v) = is.ATRequest (textIn v)
 packetIn (atResponse r) = is.ATResponse (responseIn r)
 packetIn (atPacket e) = is.ATEvent (eventIn e)
@@ -70,21 +46,21 @@ packet-back (is.DisconnectEvent c) = refl
 packet-back (is.DataEvent c d) = refl
 packet-back (is.DataCommand c d) = refl
 packet-back (is.ATRequest t) = refl
-packet-back (is.ATResponse (said.Ok t)) = refl
-packet-back (is.ATResponse said.Error) = refl
-packet-back (is.ATResponse (said.Other t)) = refl
+packet-back (is.ATResponse r) = ap is.ATResponse (response-back r)
 packet-back (is.ATEvent e) = ap is.ATEvent (event-back e)
 packet-back is.ResendConnectEvents = refl
 packet-back is.StartEvent = refl
 
-packet-injective : (p q : EdmPacket) → packetOf p ≡ packetOf q → p ≡ q
-packet-injective = distinguished packetOf packetIn packet-back
+abbrev unshown : OrRefused Packet → FrameAnswer
+unshown (good p) = answer.Packet (packetIn p)
+unshown (refused n) = answer.Refused (errorOf n)
+
+back : (r : FrameAnswer) → unshown (shown r) ≡ r
+back (answer.Packet p) = ap answer.Packet (packet-back p)
+back (answer.Refused e) = ap answer.Refused (error-back e)
 
 pub shown-injective : (r q : FrameAnswer) → shown r ≡ shown q → r ≡ q
-shown-injective (answer.Packet p) (answer.Packet q) e = ap answer.Packet (packet-injective p q cc)
-shown-injective (answer.Packet p) (answer.Refused d) e = let z : _≡_ {A = ℕ} 0 1 = cc in absurd (omega arith)
-shown-injective (answer.Refused c) (answer.Packet q) e = let z : _≡_ {A = ℕ} 0 1 = cc in absurd (omega arith)
-shown-injective (answer.Refused c) (answer.Refused d) e = ap answer.Refused (refusal-injective c d cc)
+shown-injective = distinguished shown unshown back
 
 pub one-read : One 1 read.Kinds.ps read.Kinds.r read.Reads.Post (λ κs x s. x)
 one-read κs a x y s t p q = shown-injective x y (p ∙ sym q)

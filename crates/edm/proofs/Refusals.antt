@@ -1,9 +1,10 @@
 -- No two refusals of the frame layer have one number: each is found again by its number.
 use Prim.Native.Nat.{ℕ}
-use mathlib.Core.Path.{_≡_, refl, sym, ap, _∙_}
+use mathlib.Core.Path.{_≡_, refl}
 use mathlib.Core.List.{List, [], _∷_}
 use mathlib.Core.Bool.{cond}
 use lib.Dec.{eqb}
+use Rattle.text.proofs.OneOutcome.{distinguished}
 use Rattle.at.specs.declared.AtPacketError.the-variants as at
 use Rattle.edm.specs.Refusal.{refusalNo}
 use Rattle.edm.specs.declared.EdmPacketError.{EdmPacketError}
@@ -54,4 +55,4 @@ error-back (error.AtPacketError at.EventUnknown) = refl
 
 -- no two refusals have one number
 pub refusal-injective : (d e : EdmPacketError) → refusalNo d ≡ refusalNo e → d ≡ e
-refusal-injective d e n = sym (error-back d) ∙ ap errorOf n ∙ error-back e
+refusal-injective = distinguished refusalNo errorOf error-back

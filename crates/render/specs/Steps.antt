@@ -9,7 +9,7 @@ use lib.Dec.{eqb}
 use lib.ListN.{length}
 use Rattle.text.specs.Bytes.{bytes}
 use Rattle.at.specs.Event.{Kind, bits, text, ipType, protocol, reason, Row}
-use Rattle.at.specs.Steps.{Tabled}
+use Rattle.at.specs.TableSteps.{Tabled}
 use Rattle.render.specs.Words.{Name, _is_}
 use Rattle.render.specs.Event.{Case, caseOf}
 

@@ -22,7 +22,7 @@ ghost use lib.ListN.{length, take, drop};
 ghost use Rattle.text.specs.Put.{after};
 ghost use Rattle.at.specs.Refusal.{good};
 ghost use Rattle.at.specs.Event.{Row, Event};
-ghost use Rattle.at.specs.Steps.{Tabled};
+ghost use Rattle.at.specs.TableSteps.{Tabled};
 ghost use Rattle.at.specs.Parts.{valuesOf, together};
 ghost use Rattle.writer.specs.Line.{afterName, ending, contentsOf};
 ghost use Rattle.writer.specs.Write.{writableFields, writableEnd, toWrite, Writes};

@@ -3,18 +3,6 @@ use borrow.Author.Needs.{needs}
 use Rattle.abi.proofs.mirvoncle_response.Statement.{statement}
 use Rattle.abi.proofs.mirvoncle_response.Tie as tie
 
-read-requires : tie.Need-read-requires
-read-requires c κs = search needs
-
-enum-told : tie.Need-enum-told
-enum-told c = search needs
-
-enum-known-e : tie.Need-enum-known-e
-enum-known-e c = search needs
-
-at-number-requires : tie.Need-at-number-requires
-at-number-requires c κs = search needs
-
 returns : tie.Need-returns
 returns c = rw (← c .before .before .read .ensures, c .enum-told .given .1)
 
@@ -23,4 +11,4 @@ returns-2 c = rw (← c .before .before .before .before .read .ensures, c .befor
 
 pub mirvoncle-response-spec : {M : Type 1} → statement M
 mirvoncle-response-spec =
-    tie.close (tie.spec read-requires enum-told enum-known-e at-number-requires returns returns-2)
+    tie.close (tie.spec (λ c κs. search needs) (λ c. search needs) (λ c. search needs) (λ c κs. search needs) returns returns-2)

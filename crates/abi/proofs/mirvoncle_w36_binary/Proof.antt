@@ -3,21 +3,6 @@ use borrow.Author.Needs.{needs}
 use Rattle.abi.proofs.mirvoncle_w36_binary.Statement.{statement}
 use Rattle.abi.proofs.mirvoncle_w36_binary.Tie as tie
 
-try-parse-binary-requires : tie.Need-try-parse-binary-requires
-try-parse-binary-requires c κs = search needs
-
-enum-told : tie.Need-enum-told
-enum-told c = search needs
-
-enum-told-2 : tie.Need-enum-told-2
-enum-told-2 c = search needs
-
-enum-known-e : tie.Need-enum-known-e
-enum-known-e c = search needs
-
-at-number-requires : tie.Need-at-number-requires
-at-number-requires c κs = search needs
-
 returns : tie.Need-returns
 returns c = rw (← c .before .before .try-parse-binary .ensures, c .enum-told .given .1)
 
@@ -31,11 +16,11 @@ pub mirvoncle-w36-binary-spec : {M : Type 1} → statement M
 mirvoncle-w36-binary-spec =
     tie.close
     (tie.spec
-    try-parse-binary-requires
-    enum-told
-    enum-told-2
-    enum-known-e
-    at-number-requires
+    (λ c κs. search needs)
+    (λ c. search needs)
+    (λ c. search needs)
+    (λ c. search needs)
+    (λ c κs. search needs)
     returns
     returns-2
     returns-3)

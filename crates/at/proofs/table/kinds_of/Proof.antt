@@ -7,7 +7,7 @@ use lib.ListN.{length, drop}
 use Rattle.at.specs.Refusal.{good}
 use Rattle.at.specs.Event.{Row}
 use Rattle.at.specs.Table.{lettersOf}
-use Rattle.at.specs.Steps.{Tabled}
+use Rattle.at.specs.TableSteps.{Tabled}
 use Rattle.at.specs.Parts.{rowNo}
 use Rattle.at.proofs.TableLaws.{sized, no-row, Stands, stands, seven, letters-taken}
 use borrow.Author.Needs.{needs}

@@ -9,7 +9,7 @@ use Rattle.text.specs.Bytes.{same}
 use Rattle.at.specs.Refusal.{good}
 use Rattle.at.specs.Event.{Row, nameOf}
 use Rattle.at.specs.Line.{search as rowNamed}
-use Rattle.at.specs.Steps.{Tabled}
+use Rattle.at.specs.TableSteps.{Tabled}
 use Rattle.at.specs.Parts.{rowNo}
 use Rattle.at.proofs.LineLaws.{row-found, row-passed}
 use Rattle.at.proofs.TableLaws.{sized, Stands, stands, held}

@@ -4,7 +4,8 @@ use lib.ListN.{drop}
 use Rattle.at.specs.Refusal.{refused}
 use Rattle.at.specs.Event.{upTo}
 use Rattle.at.specs.Line.{search as rowNamed, readText}
-use Rattle.at.specs.Steps.{Tabled, outcomeBy, Finds}
+use Rattle.at.specs.TableSteps.{Tabled}
+use Rattle.at.specs.Steps.{outcomeBy, Finds}
 use Rattle.at.specs.W26.{table}
 use Rattle.at.specs.declared.table.Named.the-variants.{Row}
 use Rattle.at.proofs.LineLaws.{text-read}

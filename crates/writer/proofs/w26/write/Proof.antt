@@ -1,6 +1,6 @@
 -- `w26::write` meets its contract: the event is written as its parts are. Assumes nothing.
 use Rattle.at.specs.W26.{table}
-use Rattle.at.specs.Steps.{Tabled}
+use Rattle.at.specs.TableSteps.{Tabled}
 use Rattle.at.proofs.TableTests.{roomy-w26}
 use borrow.Author.Needs.{needs}
 use Rattle.writer.proofs.w26.write.Statement.{statement}

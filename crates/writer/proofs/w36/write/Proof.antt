@@ -1,6 +1,6 @@
 -- `w36::write` meets its contract: the event is written as its parts are. Assumes nothing.
 use Rattle.at.specs.W36.{rows36}
-use Rattle.at.specs.Steps.{Tabled}
+use Rattle.at.specs.TableSteps.{Tabled}
 use Rattle.at.proofs.TableTests.{roomy-w36}
 use borrow.Author.Needs.{needs}
 use Rattle.writer.proofs.w36.write.Statement.{statement}
