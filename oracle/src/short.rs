@@ -12,6 +12,9 @@ const INLINE: &[&[u8]] = &[b"2", b",", b"+", b"a", b"\x00", b"\x01", b"\xC3"];
 /// Inside a field: digits at the edges of the codes and of their neighbours in ASCII.
 const DIGITS: &[&[u8]] = &[b"0", b"1", b"2", b"3", b"5", b"6", b"9", b"+", b"-", b" ", b"/", b","];
 
+/// The two names of one event, whole, and pieces of a line that has them.
+const PLUS: &[&[u8]] = &[b"+", b"UUNERR", b"U", b":", b",", b"7"];
+
 /// Whole events of a W36 read, and pieces of them.
 const EVENTS: &[&[u8]] = &[
     b"\r\n+UESOC:1\r\n",
@@ -45,7 +48,7 @@ const fn set(
     Set { call, before, symbols, longest, after }
 }
 
-pub const SETS: [Set; 26] = [
+pub const SETS: [Set; 27] = [
     set(Call::W26, b"", MARKS, 4, b""),
     set(Call::W26, b"\r\n", MARKS, 4, b"\r\n"),
     set(Call::W26, b"\r\n+UUDPD", MARKS, 4, b""),
@@ -54,6 +57,7 @@ pub const SETS: [Set; 26] = [
     set(Call::W26, b"\r\n+UUDPC:", DIGITS, 3, b",1,a,2,b,3\r\n"),
     set(Call::W26, b"\r\n+UUDPC:1,3,", DIGITS, 3, b",,7,,8\r\n"),
     set(Call::W26, b"\r\n+UUWLD:1,", DIGITS, 3, b"\r\n"),
+    set(Call::W26, b"\r\n", PLUS, 6, b"\r\n"),
     set(Call::W36, b"", MARKS, 4, b""),
     set(Call::W36, b"\r\n", MARKS, 4, b"\r\n"),
     set(Call::W36, b"\r\n+UESOC", MARKS, 4, b""),

@@ -16,9 +16,9 @@ pub enum Field {
 
 use Field::{Number16, Number8, Protocol, Reason, Text, Type};
 
-pub type Rows = [(&'static str, &'static [Field]); 13];
+type Row = (&'static str, &'static [Field]);
 
-pub const W26: Rows = [
+pub const W26: [Row; 14] = [
     ("+UUDPC", &[Number16, Type, Protocol, Text, Number16, Text, Number16]),
     ("+UUDPD", &[Number16]),
     ("+UUWLE", &[Number16, Text, Number16]),
@@ -31,10 +31,12 @@ pub const W26: Rows = [
     ("+UUETHLD", &[]),
     ("+UUNU", &[Number16]),
     ("+UUND", &[Number16]),
+    // The Rust's name of this event, and u-blox's.
     ("UUNERR", &[Number16, Number16]),
+    ("+UUNERR", &[Number16, Number16]),
 ];
 
-pub const W36: Rows = [
+pub const W36: [Row; 13] = [
     ("+UESOC", &[Number8]),
     ("+UESOCL", &[Number8]),
     ("+UESODA", &[Number8, Number16]),
@@ -59,12 +61,12 @@ const FEWER: u32 = 5;
 const MORE: u32 = 6;
 const END: u32 = 7;
 
-pub fn line(rng: &mut Rng, rows: &Rows, out: &mut Vec<u8>) {
+pub fn line(rng: &mut Rng, rows: &[Row], out: &mut Vec<u8>) {
     let flaws = Flaws::new(rng);
     line_with(rng, rows, flaws, out);
 }
 
-pub fn line_with(rng: &mut Rng, rows: &Rows, flaws: Flaws, out: &mut Vec<u8>) {
+pub fn line_with(rng: &mut Rng, rows: &[Row], flaws: Flaws, out: &mut Vec<u8>) {
     let (name, fields) = pick_row(rng, rows);
     pieces::lead(rng, flaws.has(LEAD), out);
     push_name(rng, name, flaws.has(NAME), out);
@@ -73,7 +75,7 @@ pub fn line_with(rng: &mut Rng, rows: &Rows, flaws: Flaws, out: &mut Vec<u8>) {
 }
 
 /// Of two rows the one with more fields, since it has more to check.
-fn pick_row(rng: &mut Rng, rows: &Rows) -> (&'static str, &'static [Field]) {
+fn pick_row(rng: &mut Rng, rows: &[Row]) -> Row {
     let (one, other) = (rows[rng.below(rows.len())], rows[rng.below(rows.len())]);
     if one.1.len() > other.1.len() {
         one
@@ -83,8 +85,7 @@ fn pick_row(rng: &mut Rng, rows: &Rows) -> (&'static str, &'static [Field]) {
 }
 
 fn push_name(rng: &mut Rng, name: &str, flawed: bool, out: &mut Vec<u8>) {
-    let other =
-        ["", "+", "+UESODB", "+UESODBF", "+UUNERR", "+UESO", "+UU", "AT", "\n+UUNU", "\u{e9}"];
+    let other = ["", "+", "+UESODB", "+UESODBF", "+UESO", "+UU", "AT", "\n+UUNU", "\u{e9}"];
     if !flawed {
         out.extend_from_slice(name.as_bytes());
         return;
