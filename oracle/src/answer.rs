@@ -1,6 +1,6 @@
 //! One record line in, one answer line out.
 
-use crate::judged::w26x::edm_protocol::EdmPacket;
+use crate::judged::w26x::edm_protocol::{EdmPacket, EdmPacketError};
 use crate::record::{self, Call};
 use crate::rows::{self, Row};
 use crate::{differences, rust, show, walk, writer};
@@ -91,7 +91,15 @@ pub fn odd_place(bed: &mut Vec<u8>, size: usize) -> &mut [u8] {
 fn frame(bytes: &[u8], bed: &mut Vec<u8>, out: &mut Vec<u8>) -> Answered {
     let place = odd_place(bed, bytes.len());
     place.copy_from_slice(bytes);
-    match rust::frame(place).ok_or(PANIC)? {
+    let line = rust::event_line(place).and_then(differences::exchanged26);
+    let answer = match (rust::frame(place).ok_or(PANIC)?, &line) {
+        // The Rust has come to that line, and is asked about it alone.
+        (Ok(EdmPacket::ATEvent(_)) | Err(EdmPacketError::AtPacketError(_)), Some(line)) => {
+            rust::wrapped(rust::event26(line).ok_or(PANIC)?)
+        }
+        (answer, _) => answer,
+    };
+    match answer {
         Ok(packet) => show::packet(out, &packet)?,
         Err(error) => show::frame_refusal(out, error),
     }
@@ -99,7 +107,7 @@ fn frame(bytes: &[u8], bed: &mut Vec<u8>, out: &mut Vec<u8>) -> Answered {
 }
 
 fn event26(bytes: &[u8], out: &mut Vec<u8>) -> Answered {
-    match rust::event26(bytes).ok_or(PANIC)? {
+    match rust::event26(&differences::asked26(bytes)).ok_or(PANIC)? {
         Ok(event) => show::event26(out, &event)?,
         Err(error) => show::refusal(out, error),
     }
@@ -167,7 +175,8 @@ fn write(packet: &EdmPacket, payload: usize, buffer: &mut [u8], out: &mut Vec<u8
 }
 
 fn again26(bytes: &[u8], size: usize, out: &mut Vec<u8>) -> Answered {
-    let event = match rust::event26(bytes).ok_or(PANIC)? {
+    let asked = differences::asked26(bytes);
+    let event = match rust::event26(&asked).ok_or(PANIC)? {
         Ok(event) => event,
         Err(error) => {
             show::refusal(out, error);
@@ -176,7 +185,8 @@ fn again26(bytes: &[u8], size: usize, out: &mut Vec<u8>) -> Answered {
     };
     let row = rows::of26(&event).ok_or(show::UNLISTED)?;
     write_again(&row, size, out, |line| {
-        let back = rust::event26(line).and_then(Result::ok);
+        let asked = differences::asked26(line);
+        let back = rust::event26(&asked).and_then(Result::ok);
         back.as_ref().and_then(rows::of26).is_some_and(|back| back == row)
     })
 }

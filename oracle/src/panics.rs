@@ -4,8 +4,9 @@
 use crate::judged::w26x::at_protocol as w26;
 use crate::judged::w26x::edm_protocol as edm;
 use crate::judged::w36x::at_protocol as w36;
+use crate::rust;
 
-/// 01, "Event lines", the W26 list: the names that have fields.
+/// 01, "Event lines", the W26 list: the names that have fields, as the Rust spells them.
 const W26_WITH_FIELDS: [&str; 11] = [
     "+UUDPC",
     "+UUDPD",
@@ -73,9 +74,7 @@ pub fn event36(bytes: &[u8]) -> Option<Result<w36::ATEvent<'static>, w36::AtPack
 
 /// OPEN-POINTS: a frame panics "only through 0041", and 01 has the frame reader wrap the refusal.
 pub fn frame(bytes: &[u8]) -> Option<Result<edm::EdmPacket<'static>, edm::EdmPacketError>> {
-    let inside = bytes.get(3..bytes.len().checked_sub(1)?)?;
-    let event = event26(inside.strip_prefix(&[0x00, 0x41])?)?;
-    Some(event.map(edm::EdmPacket::ATEvent).map_err(edm::EdmPacketError::AtPacketError))
+    event26(rust::event_line(bytes)?).map(rust::wrapped)
 }
 
 /// 01, "Write order": "buffer under 6 bytes (2; under 2 the Rust panics)".

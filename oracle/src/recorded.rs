@@ -30,7 +30,7 @@ const W26_LINES: [&str; 13] = [
     "~+UUETHLD~",
     "~+UUNU:1~",
     "~+UUND:99~",
-    "~UUNERR:0,10000~",
+    "~+UUNERR:0,10000~",
 ];
 
 const W36_LINES: [&str; 15] = [

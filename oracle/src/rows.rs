@@ -54,7 +54,7 @@ pub fn of26<'a>(event: &w26::ATEvent<'a>) -> Option<Row<'a>> {
         NetworkUp { interface_id: id } => row("NetworkUp", "+UUNU", vec![Number(id)]),
         NetworkDown { interface_id: id } => row("NetworkDown", "+UUND", vec![Number(id)]),
         NetworkError { interface_id: id, code } => {
-            row("NetworkError", "UUNERR", vec![Number(id), Number(code)])
+            row("NetworkError", "+UUNERR", vec![Number(id), Number(code)])
         }
         _ => None,
     }

@@ -15,6 +15,19 @@ pub fn frame(bytes: &[u8]) -> Read<edm::EdmPacket<'_>, edm::EdmPacketError> {
     caught(|| edm::EdmPacket::new(bytes)).or_else(|| panics::frame(bytes))
 }
 
+/// The line of an event in a frame, 0041.
+pub fn event_line(frame: &[u8]) -> Option<&[u8]> {
+    frame.get(3..frame.len().checked_sub(1)?)?.strip_prefix(&[0x00, 0x41])
+}
+
+/// The answer to a frame, from the answer to the line of an event in it. 01, "EDM frame": "The frame
+/// reader takes the AT answer apart and wraps its refusal".
+pub fn wrapped<'a>(
+    event: Result<w26::ATEvent<'a>, w26::AtPacketError>,
+) -> Result<edm::EdmPacket<'a>, edm::EdmPacketError> {
+    event.map(edm::EdmPacket::ATEvent).map_err(edm::EdmPacketError::AtPacketError)
+}
+
 pub fn event26(bytes: &[u8]) -> Read<w26::ATEvent<'_>, w26::AtPacketError> {
     caught(|| w26::ATEvent::new(bytes)).or_else(|| panics::event26(bytes))
 }

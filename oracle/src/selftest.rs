@@ -2,6 +2,7 @@
 
 use crate::answer::{self, Answerer, Outcome};
 use crate::classes::{self, Counts};
+use crate::judged::w26x::at_protocol::AtPacketError;
 use crate::judged::w26x::edm_protocol::{EdmPacket, EdmPacketError, EDM_PACKET_WIRE_OVERHEAD};
 use crate::{cases, generate, reach, record, recorded, rust};
 
@@ -60,8 +61,15 @@ fn wrong_answers(text: &'static str) -> Result<usize, String> {
 fn other_facts() -> usize {
     let refused = rust::write(&EdmPacket::StartEvent, answer::odd_place(&mut Vec::new(), 16));
     let refused = refused == Some(Err(EdmPacketError::PacketEncodeTypeUnknown));
+    let bare = rust::event26(b"\r\nUUNERR:0,1\r\n");
+    let plus = rust::event26(b"\r\n+UUNERR:0,1\r\n");
     let facts = [
         ("a packet that is no command is refused with 9", refused),
+        ("the Rust reads UUNERR", matches!(bare, Some(Ok(_)))),
+        (
+            "the Rust refuses +UUNERR with 16",
+            matches!(plus, Some(Err(AtPacketError::EventUnknown))),
+        ),
         ("the Rust's EDM_PACKET_WIRE_OVERHEAD is 8", EDM_PACKET_WIRE_OVERHEAD == 8),
     ];
     let wrong = facts.iter().filter(|(_, holds)| !holds);

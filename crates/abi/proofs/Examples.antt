@@ -1,5 +1,5 @@
 -- Calls with the numbers that they give, one accepted and one refused of each kind, and the theorem that all of them hold, by computation.
--- Inputs and numbers are those of document 01.
+-- Inputs and numbers are those of document 01, and of document 02 for the name `UUNERR`.
 use Prim.Native.Nat.{ℕ}
 use mathlib.Core.Path.{_≡_, refl}
 use mathlib.Core.List.{List, [], _∷_, _++_}
@@ -55,7 +55,7 @@ examples =
     (readCode (readFrame (hex "AA 00 02 00 71 55")) gives 0)
     ∷ (readCode (readFrame (hex "AA 00 05 00 31 01 07 55")) gives 3)
     ∷ (readCode (readLine w26.w26 0 (bytes "\r\n+UUDPD:+007\r\n")) gives 0)
-    ∷ (readCode (readLine w26.w26 0 (bytes "\r\n+UUNERR:0,1\r\n")) gives 16)
+    ∷ (readCode (readLine w26.w26 0 (bytes "\r\nUUNERR:0,1\r\n")) gives 16)
     ∷ (readCode (readLine w36.w36 0 (bytes "\r\n+UEWSNU\r\n\r\n+UESOC:1\r\n")) gives 0)
     ∷ (readCode (readLine w36.w36 0 (bytes "\r\n")) gives 12)
     ∷ (binaryCode (tryRows binaryTable 0 (bytes "\r\n+UESODB:2" ++ hex "01 00 01 FF")) gives 0)

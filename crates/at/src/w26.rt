@@ -167,7 +167,7 @@ pub fn rows() -> [u8; 260]
         \x08\x00+UUETHLD          \
         \x05\x01+UUNU      w      \
         \x05\x01+UUND      w      \
-        \x06\x02UUNERR     ww     "
+        \x07\x02+UUNERR    ww     "
 }
 
 fn peer_connected(fields: [Field; 7]) -> ATEvent

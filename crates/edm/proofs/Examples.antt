@@ -1,4 +1,5 @@
--- The examples that document 01 marks to be proved, as one table, and the theorem that all of them hold, by computation.
+-- The examples that document 01 marks to be proved, as one table, and the theorem that all of them hold, by computation. That of `+UUNERR` is as
+-- request 2 of document 02 has it, with the bare name beside it.
 use Prim.Native.Nat.{ℕ}
 use mathlib.Core.Path.{_≡_, refl}
 use mathlib.Core.List.{List, [], _∷_, _++_}
@@ -60,7 +61,8 @@ examples =
     ∷ aWrite ResendConnectEvents [] (hex "00 01 02 03 04") (refused 2) (hex "00 01 02 03 04")
     ∷ aLine26 (bytes "\r\n+UUDPD:+007\r\n") (good (eventTo (event UUDPD (num 7 ∷ [])) 15))
     ∷ aLine26 (bytes "\r\n+UUETHLU\r\n") (good (eventTo (event UUETHLU []) 12))
-    ∷ aLine26 (bytes "\r\n+UUNERR:0,1\r\n") (refused 16)
+    ∷ aLine26 (bytes "\r\n+UUNERR:0,1\r\n") (good (eventTo (event UUNERR (num 0 ∷ num 1 ∷ [])) 15))
+    ∷ aLine26 (bytes "\r\nUUNERR:0,1\r\n") (refused 16)
     ∷ aLine36 (bytes "\r\n+UEWSNU\r\n\r\n+UESOC:1\r\n") (good (eventTo (event UEWSNU []) 11))
     ∷ aBinary (bytes "\r\n+UESODB:2" ++ hex "01 00 01 FF") (tried (good (eventTo (event UESODB (num 2 ∷ place 14 1 ∷ [])) 15)))
     ∷ aResponse (bytes "\r\n+A\r\nOK\r\n") (good (ok 2 2))
@@ -68,4 +70,4 @@ examples =
 
 pub all-hold : All examples
 unfolding same startsWith part firstOf lastBelow lastOf fieldsFrom digitsFrom under digits signed number table37 seqLen passed validUpTo utf8 insideCharacter readField takeKind takeKinds readRow before endsIn ended framed search fieldsAfter readText readLine fieldsUpTo readFields findMarker readData readBody tryRows readRest readResponse readResponseBody w26.table UUDPC UUDPD UUWLE UUWLD UUWAPU UUWAPD UUWAPSTAC UUWAPSTAD UUETHLU UUETHLD UUNU UUND UUNERR w36.table UESOC UESOCL UESODA UEWLU UEWLD UEWAPSA UEWAPSDA UEWAPU UEWAPD UEWSNU UESODB binaryTable identifiers carried readDataEvent readFrame frame toSend toWrite
-all-hold = (refl, (refl, (refl, (refl, (refl, (refl, ((refl, refl), ((refl, refl), ((refl, refl), (refl, (refl, (refl, (refl, (refl, (refl, tt)))))))))))))))
+all-hold = (refl, (refl, (refl, (refl, (refl, (refl, ((refl, refl), ((refl, refl), ((refl, refl), (refl, (refl, (refl, (refl, (refl, (refl, (refl, tt))))))))))))))))
