@@ -16,12 +16,12 @@ struct Answer(usize, Vec<u8>);
 /// What a buffer holds beforehand, so that a byte that is written where none may be shows.
 const BEFORE: u8 = 0xE7;
 
-pub fn agree(kind: Kind, input: &[u8]) -> Result<(), String> {
+pub fn agree(kind: Kind, rust_input: &[u8], our_input: &[u8]) -> Result<(), String> {
     let mut buffer = Place::of_frame(&[BEFORE; ROOM]);
-    let number = by_rust(kind, input, buffer.bytes_mut())?;
+    let number = by_rust(kind, rust_input, buffer.bytes_mut())?;
     let rust = Answer(number, buffer.bytes().to_vec());
     buffer.bytes_mut().fill(BEFORE);
-    let number = by_ours(kind, input, buffer.bytes_mut());
+    let number = by_ours(kind, our_input, buffer.bytes_mut());
     let ours = Answer(number, buffer.bytes().to_vec());
     match rust == ours {
         true => Ok(()),

@@ -1,4 +1,4 @@
-//! The calls that are measured. Both sides of a kind take the same bytes and, if they write, the same
+//! The calls that are measured. Both sides of a kind take an input and, if they write, the same
 //! buffer; each is one function with a symbol of its own, so that callgrind can tell them apart.
 
 use std::hint::black_box;

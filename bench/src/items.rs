@@ -2,31 +2,49 @@
 
 use crate::agree::agree;
 use crate::calls::{repeat, Kind, Side, ROOM};
+use crate::growth;
 use crate::inputs::Place;
-use crate::{growth, rows};
+use crate::rows::{self, Row};
 
 pub struct Item {
     pub name: String,
     pub kind: Kind,
     pub input: Place,
+    /// What the Rust is given, where that is something else.
+    rust_input: Option<Place>,
 }
 
 impl Item {
     fn new(name: String, kind: Kind, bytes: &[u8]) -> Item {
-        let input = match kind {
-            Kind::Frame => Place::of_frame(bytes),
-            _ => Place::of_text(bytes),
-        };
-        Item { name, kind, input }
+        Item { name, kind, input: place(kind, bytes), rust_input: None }
+    }
+
+    fn of_row(row: &Row) -> Item {
+        let rust_input = row.rust_input.as_ref().map(|bytes| place(row.kind, bytes));
+        Item { rust_input, ..Item::new(row.name.to_string(), row.kind, &row.input) }
+    }
+
+    fn given(&self, side: Side) -> &Place {
+        match side {
+            Side::Rust => self.rust_input.as_ref().unwrap_or(&self.input),
+            Side::Ours => &self.input,
+        }
     }
 
     pub fn check(&self) -> Result<(), String> {
-        agree(self.kind, self.input.bytes())
+        agree(self.kind, self.given(Side::Rust).bytes(), self.given(Side::Ours).bytes())
             .map_err(|why| format!("{} cannot be compared: {why}", self.name))
     }
 
     pub fn run(&self, side: Side, buffer: &mut Place, count: u64) {
-        repeat(self.kind.call(side), &self.input, buffer, count);
+        repeat(self.kind.call(side), self.given(side), buffer, count);
+    }
+}
+
+fn place(kind: Kind, bytes: &[u8]) -> Place {
+    match kind {
+        Kind::Frame => Place::of_frame(bytes),
+        _ => Place::of_text(bytes),
     }
 }
 
@@ -36,7 +54,7 @@ pub fn sized(name: &str, size: usize) -> String {
 }
 
 pub fn of_rows() -> Vec<Item> {
-    rows::all().iter().map(|row| Item::new(row.name.to_string(), row.kind, &row.input)).collect()
+    rows::all().iter().map(Item::of_row).collect()
 }
 
 pub fn all() -> Vec<Item> {

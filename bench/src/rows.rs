@@ -10,10 +10,12 @@ pub struct Row {
     pub bar: f64,
     pub kind: Kind,
     pub input: Vec<u8>,
+    /// The line as the Rust spells it, where that is another one.
+    pub rust_input: Option<Vec<u8>>,
 }
 
 fn row(name: &'static str, what: &'static str, bar: f64, kind: Kind, input: Vec<u8>) -> Row {
-    Row { name, what, bar, kind, input }
+    Row { name, what, bar, kind, input, rust_input: None }
 }
 
 pub fn all() -> Vec<Row> {
@@ -43,14 +45,18 @@ fn data_frame(len: usize) -> Vec<u8> {
 fn lines() -> Vec<Row> {
     let link = b"\r\n+UEWLU:0,0012F398DD12,6\r\n".to_vec();
     let socket = b"\r\n+UESOC:1\r\n".to_vec();
-    let last_w26 = b"\r\nUUNERR:0,1\r\n".to_vec();
+    let last_w26 = b"\r\n+UUNERR:0,1\r\n".to_vec();
     let last_w36 = b"\r\n+UEWAPND\r\n".to_vec();
     let head = b"\r\n+UESODB:2";
     let data = binary(head, head.len() + 3 + 100);
     vec![
         row("w36-uewlu", "W36 `+UEWLU`", 1.0, Kind::W36, link),
         row("w36-uesoc", "W36 `+UESOC`", 1.0, Kind::W36, socket),
-        row("w26-last", "W26 `UUNERR`, the table's last row", 1.0, Kind::W26, last_w26),
+        Row {
+            // 02, request 2: "`+UUNERR` is the event". The Rust has the bare name.
+            rust_input: Some(b"\r\nUUNERR:0,1\r\n".to_vec()),
+            ..row("w26-last", "W26 `+UUNERR`, the table's last row", 1.0, Kind::W26, last_w26)
+        },
         row("w36-last", "W36 `+UEWAPND`, the table's last row", 1.0, Kind::W36, last_w36),
         row("binary-100", "`+UESODB`, 100 data bytes", 1.0, Kind::Binary, data),
     ]
