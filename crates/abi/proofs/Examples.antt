@@ -15,9 +15,8 @@ use Rattle.at.specs.Line.{before, endsIn, ended, framed, search, fieldsAfter, r
 use Rattle.at.specs.Binary.{fieldsUpTo, readFields, findMarker, readData, readBody, tryRows}
 use Rattle.at.specs.Response.{readRest, readResponse, readBody as readResponseBody}
 use Rattle.at.specs.W26 as w26
-use Rattle.at.specs.W26.{UUDPC, UUDPD, UUWLE, UUWLD, UUWAPU, UUWAPD, UUWAPSTAC, UUWAPSTAD, UUETHLU, UUETHLD, UUNU, UUND, UUNERR}
 use Rattle.at.specs.W36 as w36
-use Rattle.at.specs.W36.{UESOC, UESOCL, UESODA, UEWLU, UEWLD, UEWAPSA, UEWAPSDA, UEWAPU, UEWAPD, UEWSNU, UESODB, UESODBF, binaryTable}
+use Rattle.at.specs.W36.{binaryTable}
 use Rattle.edm.specs.Packet.{identifiers, carried}
 use Rattle.edm.specs.Frame.{readFrame}
 use Rattle.edm.specs.Command.{frame, command, requestOf, toSend}
@@ -74,5 +73,5 @@ examples =
     ∷ []
 
 pub all-hold : All examples
-unfolding same startsWith firstOf lastBelow lastOf fieldsFrom digitsFrom under digits signed number table37 seqLen passed validUpTo utf8 insideCharacter readField takeKind takeKinds readRow before endsIn ended framed search fieldsAfter readText readLine fieldsUpTo readFields findMarker readData readBody tryRows readRest readResponse readResponseBody w26.table UUDPC UUDPD UUWLE UUWLD UUWAPU UUWAPD UUWAPSTAC UUWAPSTAD UUETHLU UUETHLD UUNU UUND UUNERR w36.table UESOC UESOCL UESODA UEWLU UEWLD UEWAPSA UEWAPSDA UEWAPU UEWAPD UEWSNU UESODB UESODBF binaryTable identifiers carried readFrame frame toSend
+unfolding same startsWith firstOf lastBelow lastOf fieldsFrom digitsFrom under digits signed number table37 seqLen passed validUpTo utf8 insideCharacter readField takeKind takeKinds readRow before endsIn ended framed search fieldsAfter readText readLine fieldsUpTo readFields findMarker readData readBody tryRows readRest readResponse readResponseBody w26.table w36.table binaryTable identifiers carried readFrame frame toSend
 all-hold = (refl, (refl, (refl, (refl, (refl, (refl, (refl, (refl, (refl, (refl, (refl, (refl, (refl, (refl, (refl, (refl, (refl, (refl, (refl, tt)))))))))))))))))))

@@ -12,29 +12,29 @@ use Rattle.at.specs.W36 as w36
 use Rattle.at.proofs.PartsLaws.{numberOf, firsts}
 
 pub roomy-w26 : roomy w26.table ≡ true
-unfolding roomy w26.table w26.UUDPC w26.UUDPD w26.UUWLE w26.UUWLD w26.UUWAPU w26.UUWAPD w26.UUWAPSTAC w26.UUWAPSTAD w26.UUETHLU w26.UUETHLD w26.UUNU w26.UUND w26.UUNERR
+unfolding roomy w26.table
 roomy-w26 = refl
 
 pub legible-w26 : Legible w26.table
-unfolding kindOf w26.table w26.UUDPC w26.UUDPD w26.UUWLE w26.UUWLD w26.UUWAPU w26.UUWAPD w26.UUWAPSTAC w26.UUWAPSTAD w26.UUETHLU w26.UUETHLD w26.UUNU w26.UUND w26.UUNERR
+unfolding kindOf w26.table
 legible-w26 = refl
 
 pub roomy-w36 : (roomy w36.table ≡ true) × (roomy w36.rows36 ≡ true)
-unfolding roomy w36.table w36.binaryTable w36.rows36 w36.UESOC w36.UESOCL w36.UESODA w36.UEWLU w36.UEWLD w36.UEWAPSA w36.UEWAPSDA w36.UEWAPU w36.UEWAPD w36.UEWSNU w36.UEWSND w36.UEWAPNU w36.UEWAPND w36.UESODB w36.UESODBF
+unfolding roomy w36.table w36.binaryTable w36.rows36
 roomy-w36 = (refl, refl)
 
 pub legible-w36 : Legible w36.table
-unfolding kindOf w36.table w36.UESOC w36.UESOCL w36.UESODA w36.UEWLU w36.UEWLD w36.UEWAPSA w36.UEWAPSDA w36.UEWAPU w36.UEWAPD w36.UEWSNU w36.UEWSND w36.UEWAPNU w36.UEWAPND
+unfolding kindOf w36.table
 legible-w36 = refl
 
 pub text-in-front : take 260 (spelled w36.rows36) ≡ spelled w36.table
-unfolding spelled w36.table w36.binaryTable w36.rows36 w36.UESOC w36.UESOCL w36.UESODA w36.UEWLU w36.UEWLD w36.UEWAPSA w36.UEWAPSDA w36.UEWAPU w36.UEWAPD w36.UEWSNU w36.UEWSND w36.UEWAPNU w36.UEWAPND w36.UESODB w36.UESODBF
+unfolding spelled w36.table w36.binaryTable w36.rows36
 text-in-front = refl
 
 pub firsts-w26 : firsts w26.table 0 w26.table ≡ true
-unfolding firsts numberOf same w26.table w26.UUDPC w26.UUDPD w26.UUWLE w26.UUWLD w26.UUWAPU w26.UUWAPD w26.UUWAPSTAC w26.UUWAPSTAD w26.UUETHLU w26.UUETHLD w26.UUNU w26.UUND w26.UUNERR
+unfolding firsts numberOf same w26.table
 firsts-w26 = refl
 
 pub firsts-w36 : firsts w36.rows36 0 w36.rows36 ≡ true
-unfolding firsts numberOf same w36.table w36.binaryTable w36.rows36 w36.UESOC w36.UESOCL w36.UESODA w36.UEWLU w36.UEWLD w36.UEWAPSA w36.UEWAPSDA w36.UEWAPU w36.UEWAPD w36.UEWSNU w36.UEWSND w36.UEWAPNU w36.UEWAPND w36.UESODB w36.UESODBF
+unfolding firsts numberOf same w36.table w36.binaryTable w36.rows36
 firsts-w36 = refl

@@ -16,9 +16,9 @@ use Rattle.at.specs.Refusal.{OrRefused, good, refused}
 use Rattle.at.specs.Written.{answerTo, after}
 use Rattle.at.specs.Response.{Response, ok, readRest, readResponse, readBody as readResponseBody}
 use Rattle.at.specs.W26 as w26
-use Rattle.at.specs.W26.{UUDPC, UUDPD, UUWLE, UUWLD, UUWAPU, UUWAPD, UUWAPSTAC, UUWAPSTAD, UUETHLU, UUETHLD, UUNU, UUND, UUNERR}
+use Rattle.at.specs.W26.{UUDPD, UUETHLU, UUNERR}
 use Rattle.at.specs.W36 as w36
-use Rattle.at.specs.W36.{UESOC, UESOCL, UESODA, UEWLU, UEWLD, UEWAPSA, UEWAPSDA, UEWAPU, UEWAPD, UEWSNU, UESODB, binaryTable}
+use Rattle.at.specs.W36.{UEWSNU, UESODB, binaryTable}
 use Rattle.edm.specs.Packet.{Packet, startPacket, dataPacket, identifiers, carried}
 use Rattle.edm.specs.Payload.{readDataEvent}
 use Rattle.edm.specs.Frame.{readFrame}
@@ -69,5 +69,5 @@ examples =
     ∷ []
 
 pub all-hold : All examples
-unfolding same startsWith part firstOf lastBelow lastOf fieldsFrom digitsFrom under digits signed number table37 seqLen passed validUpTo utf8 insideCharacter readField takeKind takeKinds readRow before endsIn ended framed search fieldsAfter readText readLine fieldsUpTo readFields findMarker readData readBody tryRows readRest readResponse readResponseBody w26.table UUDPC UUDPD UUWLE UUWLD UUWAPU UUWAPD UUWAPSTAC UUWAPSTAD UUETHLU UUETHLD UUNU UUND UUNERR w36.table UESOC UESOCL UESODA UEWLU UEWLD UEWAPSA UEWAPSDA UEWAPU UEWAPD UEWSNU UESODB binaryTable identifiers carried readDataEvent readFrame frame toSend toWrite
+unfolding same startsWith part firstOf lastBelow lastOf fieldsFrom digitsFrom under digits signed number table37 seqLen passed validUpTo utf8 insideCharacter readField takeKind takeKinds readRow before endsIn ended framed search fieldsAfter readText readLine fieldsUpTo readFields findMarker readData readBody tryRows readRest readResponse readResponseBody w26.table w36.table binaryTable identifiers carried readDataEvent readFrame frame toSend toWrite
 all-hold = (refl, (refl, (refl, (refl, (refl, (refl, ((refl, refl), ((refl, refl), ((refl, refl), (refl, (refl, (refl, (refl, (refl, (refl, (refl, tt))))))))))))))))

@@ -5,8 +5,8 @@ use Rattle.text.specs.Bytes.{bytes, hex, part, same}
 use Rattle.text.specs.Decimal.{digitsOf, decimal}
 use Rattle.at.specs.Refusal.{good, refused}
 use Rattle.at.specs.Event.{num, place, event}
-use Rattle.at.specs.W26.{UUDPC, UUDPD, UUWLE, UUWLD, UUWAPU, UUWAPD, UUWAPSTAC, UUWAPSTAD, UUETHLU}
-use Rattle.at.specs.W36.{UESOC, UESOCL, UESODA, UEWLU, UEWLD, UEWAPSA}
+use Rattle.at.specs.W26.{UUWLD, UUETHLU}
+use Rattle.at.specs.W36.{UESOC, UEWAPSA}
 use Rattle.at.specs.Walk.{eventThen, thenEnd, thenRefused}
 use Rattle.edm.specs.Packet.{dataPacket, connectEvent, atPacket}
 use Rattle.render.specs.Words.{pairsOf, nameIn, reasons, numberWord, valuesLine}
@@ -27,17 +27,17 @@ unfolding valuesLine numberWord decimal digitsOf pairsOf part
 connect-event = refl
 
 pub link-up : frameLine [] (good (atPacket (event UUETHLU []))) ≡ bytes "ATEvent EthernetLinkUp"
-unfolding valuesLine cases26 caseOf same UUDPC UUDPD UUWLE UUWLD UUWAPU UUWAPD UUWAPSTAC UUWAPSTAD UUETHLU
+unfolding valuesLine cases26 caseOf same
 link-up = refl
 
 -- a reason is named
 pub left-link : eventLine cases26 [] (event UUWLD (num 7 ∷ num 4 ∷ [])) ≡ bytes "WifiLinkDisconnected 7 SecurityProblems"
-unfolding valuesLine numberWord nameIn reasons decimal digitsOf cases26 caseOf same UUDPC UUDPD UUWLE UUWLD
+unfolding valuesLine numberWord nameIn reasons decimal digitsOf cases26 caseOf same
 left-link = refl
 
 -- an empty text
 pub no-text : eventLine cases36 [] (event UEWAPSA (place 11 0 ∷ [])) ≡ bytes "WifiAccessPointStationAssociated -"
-unfolding valuesLine part cases36 caseOf same UESOC UESOCL UESODA UEWLU UEWLD UEWAPSA
+unfolding valuesLine part cases36 caseOf same
 no-text = refl
 
 -- a refusal of the AT layer in a frame
@@ -48,9 +48,9 @@ wrapped = refl
 -- a walk to the end, and one that stops
 pub two-connected : walkLine [] (eventThen (event UESOC (num 1 ∷ [])) 12 (eventThen (event UESOC (num 2 ∷ [])) 24 thenEnd))
     ≡ bytes "SocketConnected 1 @12 ; SocketConnected 2 @24 ; end"
-unfolding walkLine valuesLine numberWord decimal digitsOf cases36 caseOf same UESOC
+unfolding walkLine valuesLine numberWord decimal digitsOf cases36 caseOf same
 two-connected = refl
 
 pub one-connected : walkLine [] (eventThen (event UESOC (num 1 ∷ [])) 12 (thenRefused 12 12)) ≡ bytes "SocketConnected 1 @12 ; refused FramingDecodeFailed @12"
-unfolding walkLine valuesLine numberWord decimal digitsOf cases36 caseOf same UESOC refusedLine nameIn refusals
+unfolding walkLine valuesLine numberWord decimal digitsOf cases36 caseOf same refusedLine nameIn refusals
 one-connected = refl

@@ -30,7 +30,7 @@ abbrev pub paid : List Case → Row → Bool
 paid cases r = leb (5 * (cost cases r + 11)) (18 * (4 + length (nameOf r)))
 
 pub cheap-26 : rowsPass (cheap cases26) w26.table ≡ true
-unfolding rowsPass cases26 caseOf extras extra same w26.table w26.UUDPC w26.UUDPD w26.UUWLE w26.UUWLD w26.UUWAPU w26.UUWAPD w26.UUWAPSTAC w26.UUWAPSTAD w26.UUETHLU w26.UUETHLD w26.UUNU w26.UUND w26.UUNERR
+unfolding rowsPass cases26 caseOf extras extra same w26.table
 cheap-26 = refl
 
 pub record Passed36 (test : List Case → Row → Bool) : Type 0 where
@@ -38,5 +38,5 @@ pub record Passed36 (test : List Case → Row → Bool) : Type 0 where
   pub binaries : rowsPass (test cases36) w36.binaryTable ≡ true
 
 pub passed-36 : Passed36 cheap × Passed36 paid
-unfolding rowsPass cases36 caseOf extras extra same w36.table w36.binaryTable w36.UESOC w36.UESOCL w36.UESODA w36.UEWLU w36.UEWLD w36.UEWAPSA w36.UEWAPSDA w36.UEWAPU w36.UEWAPD w36.UEWSNU w36.UEWSND w36.UEWAPNU w36.UEWAPND w36.UESODB w36.UESODBF
+unfolding rowsPass cases36 caseOf extras extra same w36.table w36.binaryTable
 passed-36 = (record { texts = refl; binaries = refl }, record { texts = refl; binaries = refl })

@@ -3,7 +3,7 @@ use native.Mathlib.Omega.{arith}
 use lib.ListN.{length}
 use Rattle.at.specs.Parts.{rowNo}
 use Rattle.at.specs.Steps.{valuesOf}
-use Rattle.at.specs.W26.{table, UUDPC, UUDPD, UUWLE, UUWLD, UUWAPU, UUWAPD, UUWAPSTAC, UUWAPSTAD, UUETHLU, UUETHLD, UUNU, UUND, UUNERR}
+use Rattle.at.specs.W26.{table}
 use Rattle.at.proofs.TableLaws.{none-of}
 use borrow.Author.Needs.{needs}
 use Rattle.at.proofs.w26.event_of.Statement.{statement}
@@ -14,7 +14,7 @@ unfolding table
 none-left c = λ h. let n = none-of _ (length table) (c .match .rest) in absurd (omega (arith, h, n))
 
 pub event-of-spec : {M : Type 1} → statement M
-unfolding rowNo valuesOf table UUDPC UUDPD UUWLE UUWLD UUWAPU UUWAPD UUWAPSTAC UUWAPSTAD UUETHLU UUETHLD UUNU UUND UUNERR
+unfolding rowNo valuesOf table
 event-of-spec =
     tie.close
     (tie.spec

@@ -1,12 +1,11 @@
 -- `w26::peer_connected` meets its contract: each field is the row's. Assumes nothing.
 use Rattle.at.specs.Steps.{valuesOf}
-use Rattle.at.specs.W26.{UUDPC}
 use borrow.Author.Needs.{needs}
 use Rattle.at.proofs.w26.peer_connected.Statement.{statement}
 use Rattle.at.proofs.w26.peer_connected.Tie as tie
 
 pub peer-connected-spec : {M : Type 1} → statement M
-unfolding valuesOf UUDPC
+unfolding valuesOf
 peer-connected-spec =
     tie.close
     (tie.spec

@@ -3,7 +3,7 @@ use native.Mathlib.Omega.{arith}
 use lib.ListN.{length}
 use Rattle.at.specs.Parts.{rowNo}
 use Rattle.at.specs.Steps.{valuesOf}
-use Rattle.at.specs.W36.{table, UESOC, UESOCL, UESODA, UEWLU, UEWLD, UEWAPSA, UEWAPSDA, UEWAPU, UEWAPD, UEWSNU, UEWSND, UEWAPNU, UEWAPND}
+use Rattle.at.specs.W36.{table}
 use Rattle.at.proofs.TableLaws.{none-of}
 use borrow.Author.Needs.{needs}
 use Rattle.at.proofs.w36.event_of.Statement.{statement}
@@ -14,7 +14,7 @@ unfolding table
 none-left c = λ h. let n = none-of _ (length table) (c .match .rest) in absurd (omega (arith, h, n))
 
 pub event-of-spec : {M : Type 1} → statement M
-unfolding rowNo valuesOf table UESOC UESOCL UESODA UEWLU UEWLD UEWAPSA UEWAPSDA UEWAPU UEWAPD UEWSNU UEWSND UEWAPNU UEWAPND
+unfolding rowNo valuesOf table
 event-of-spec =
     tie.close
     (tie.spec

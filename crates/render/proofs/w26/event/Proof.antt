@@ -1,7 +1,7 @@
 -- `w26::event` meets its contract: its list in bytes has the names of the cases, by their rows. Assumes nothing.
 use mathlib.Core.Path.{refl}
 use Rattle.text.specs.Bytes.{same}
-use Rattle.at.specs.W26.{table, UUDPC, UUDPD, UUWLE, UUWLD, UUWAPU, UUWAPD, UUWAPSTAC, UUWAPSTAD, UUETHLU, UUETHLD, UUNU, UUND, UUNERR}
+use Rattle.at.specs.W26.{table}
 use Rattle.at.proofs.TableTests.{roomy-w26}
 use Rattle.render.specs.Event.{cases26, caseOf}
 use Rattle.render.specs.Steps.{spelled, numbered}
@@ -14,7 +14,7 @@ returns c =
     c .before .before .parts-line .ensures table cases26 _
     (record {
       tabled = record { spells = c .before .before .before .before .before .before .before .rows .ensures; rooms = roomy-w26 };
-      names-spelled = unfold table UUDPC UUDPD UUWLE UUWLD UUWAPU UUWAPD UUWAPSTAC UUWAPSTAD UUETHLU UUETHLD UUNU UUND UUNERR same cases26 caseOf spelled numbered in refl;
+      names-spelled = unfold table same cases26 caseOf spelled numbered in refl;
     })
     (c .before .before .before .parts .ensures)
 

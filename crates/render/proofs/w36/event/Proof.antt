@@ -1,7 +1,7 @@
 -- `w36::event` meets its contract: its list in bytes has the names of the cases, by their rows. Assumes nothing.
 use mathlib.Core.Path.{refl}
 use Rattle.text.specs.Bytes.{same}
-use Rattle.at.specs.W36.{table, binaryTable, rows36, UESOC, UESOCL, UESODA, UEWLU, UEWLD, UEWAPSA, UEWAPSDA, UEWAPU, UEWAPD, UEWSNU, UEWSND, UEWAPNU, UEWAPND, UESODB, UESODBF}
+use Rattle.at.specs.W36.{table, binaryTable, rows36}
 use Rattle.at.proofs.TableTests.{roomy-w36}
 use Rattle.render.specs.Event.{cases36, caseOf}
 use Rattle.render.specs.Steps.{spelled, numbered}
@@ -14,7 +14,7 @@ returns c =
     c .before .before .parts-line .ensures rows36 cases36 _
     (record {
       tabled = record { spells = c .before .before .before .before .before .before .before .rows .ensures; rooms = roomy-w36 .1 };
-      names-spelled = unfold table binaryTable rows36 UESOC UESOCL UESODA UEWLU UEWLD UEWAPSA UEWAPSDA UEWAPU UEWAPD UEWSNU UEWSND UEWAPNU UEWAPND UESODB UESODBF same cases36 caseOf spelled numbered in refl;
+      names-spelled = unfold table binaryTable rows36 same cases36 caseOf spelled numbered in refl;
     })
     (c .before .before .before .parts .ensures)
 
