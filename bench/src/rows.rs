@@ -55,7 +55,7 @@ fn lines() -> Vec<Row> {
         Row {
             // 02, request 2: "`+UUNERR` is the event". The Rust has the bare name.
             rust_input: Some(b"\r\nUUNERR:0,1\r\n".to_vec()),
-            ..row("w26-last", "W26 `+UUNERR`, the table's last row", 1.0, Kind::W26, last_w26)
+            ..row("w26-last", "W26 `+UUNERR`, the Rust's last row", 1.0, Kind::W26, last_w26)
         },
         row("w36-last", "W36 `+UEWAPND`, the table's last row", 1.0, Kind::W36, last_w36),
         row("binary-100", "`+UESODB`, 100 data bytes", 1.0, Kind::Binary, data),

@@ -1,5 +1,6 @@
 //! One record line in, one answer line out.
 
+use crate::judged::w26x::at_protocol::AtPacketError;
 use crate::judged::w26x::edm_protocol::{EdmPacket, EdmPacketError};
 use crate::record::{self, Call};
 use crate::rows::{self, Row};
@@ -91,24 +92,41 @@ pub fn odd_place(bed: &mut Vec<u8>, size: usize) -> &mut [u8] {
 fn frame(bytes: &[u8], bed: &mut Vec<u8>, out: &mut Vec<u8>) -> Answered {
     let place = odd_place(bed, bytes.len());
     place.copy_from_slice(bytes);
-    let line = rust::event_line(place).and_then(differences::exchanged26);
-    let answer = match (rust::frame(place).ok_or(PANIC)?, &line) {
+    let line = rust::event_line(place);
+    let exchanged = line.and_then(differences::exchanged26);
+    let answer = match (rust::frame(place).ok_or(PANIC)?, &exchanged) {
         // The Rust has come to that line, and is asked about it alone.
         (Ok(EdmPacket::ATEvent(_)) | Err(EdmPacketError::AtPacketError(_)), Some(line)) => {
             rust::wrapped(rust::event26(line).ok_or(PANIC)?)
         }
         (answer, _) => answer,
     };
-    match answer {
-        Ok(packet) => show::packet(out, &packet)?,
-        Err(error) => show::frame_refusal(out, error),
+    let defined = match (&answer, line) {
+        (Err(EdmPacketError::AtPacketError(error)), Some(line)) => {
+            differences::defined26(line, *error)
+        }
+        _ => None,
+    };
+    match (defined, answer) {
+        (Some(Ok(event)), _) => show::event_packet(out, &event),
+        (Some(Err(error)), _) => show::frame_refusal(out, EdmPacketError::AtPacketError(error)),
+        (None, Ok(packet)) => show::packet(out, &packet)?,
+        (None, Err(error)) => show::frame_refusal(out, error),
     }
     Ok(())
 }
 
+/// The Rust's answer to a W26 line, or the definition's where that takes its place.
+fn read26(line: &[u8]) -> Result<Result<Row<'_>, AtPacketError>, &'static str> {
+    match rust::event26(line).ok_or(PANIC)? {
+        Ok(event) => rows::of26(&event).ok_or(show::UNLISTED).map(Ok),
+        Err(error) => Ok(differences::defined26(line, error).unwrap_or(Err(error))),
+    }
+}
+
 fn event26(bytes: &[u8], out: &mut Vec<u8>) -> Answered {
-    match rust::event26(&differences::asked26(bytes)).ok_or(PANIC)? {
-        Ok(event) => show::event26(out, &event)?,
+    match read26(&differences::asked26(bytes))? {
+        Ok(row) => show::row(out, &row),
         Err(error) => show::refusal(out, error),
     }
     Ok(())
@@ -176,18 +194,16 @@ fn write(packet: &EdmPacket, payload: usize, buffer: &mut [u8], out: &mut Vec<u8
 
 fn again26(bytes: &[u8], size: usize, out: &mut Vec<u8>) -> Answered {
     let asked = differences::asked26(bytes);
-    let event = match rust::event26(&asked).ok_or(PANIC)? {
-        Ok(event) => event,
+    let row = match read26(&asked)? {
+        Ok(row) => row,
         Err(error) => {
             show::refusal(out, error);
             return Ok(());
         }
     };
-    let row = rows::of26(&event).ok_or(show::UNLISTED)?;
     write_again(&row, size, out, |line| {
         let asked = differences::asked26(line);
-        let back = rust::event26(&asked).and_then(Result::ok);
-        back.as_ref().and_then(rows::of26).is_some_and(|back| back == row)
+        matches!(read26(&asked), Ok(Ok(back)) if back == row)
     })
 }
 

@@ -7,11 +7,12 @@
 use crate::hex;
 
 /// The files that are also the first part of the recorded list.
-pub const RECORDED: [&str; 4] = [
+pub const RECORDED: [&str; 5] = [
     include_str!("../cases/examples.txt"),
     include_str!("../cases/rules.txt"),
     include_str!("../cases/corners.txt"),
     include_str!("../cases/walks.txt"),
+    include_str!("../cases/bluetooth.txt"),
 ];
 /// Inputs too long for a list that is kept.
 pub const LONG: &str = include_str!("../cases/long.txt");

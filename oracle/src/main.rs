@@ -3,6 +3,7 @@
 #![feature(ptr_metadata)]
 
 mod answer;
+mod bluetooth;
 mod cases;
 mod classes;
 mod compare;

@@ -3,7 +3,7 @@
 
 use crate::walk;
 
-const W26_EVENTS: [&str; 13] = [
+const W26_EVENTS: [&str; 26] = [
     "PeerConnectedIP",
     "PeerDisconnected",
     "WifiLinkConnected",
@@ -17,6 +17,19 @@ const W26_EVENTS: [&str; 13] = [
     "NetworkUp",
     "NetworkDown",
     "NetworkError",
+    "DataAvailable",
+    "PeerConnectedBluetooth",
+    "BondEvent",
+    "UserConfirmation",
+    "UserPasskeyDisplay",
+    "UserPasskeyEntry",
+    "ACLConnected",
+    "ACLDisconnected",
+    "GATTRequestToRead",
+    "GATTRequestToWrite",
+    "GATTIndicationConfirmation",
+    "GATTNotification",
+    "GATTIndication",
 ];
 
 const W36_EVENTS: [&str; 13] = [

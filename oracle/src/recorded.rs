@@ -17,7 +17,7 @@ const SEED: u64 = 2_026;
 const LONGEST: usize = 240;
 
 /// One line of every event that our writer writes.
-const W26_LINES: [&str; 13] = [
+const W26_LINES: [&str; 26] = [
     "~+UUDPC:1,3,6,fe80::1,80,fe80::2,65535~",
     "~+UUDPD:65535~",
     "~+UUWLE:0,001122334455,11~",
@@ -31,6 +31,19 @@ const W26_LINES: [&str; 13] = [
     "~+UUNU:1~",
     "~+UUND:99~",
     "~+UUNERR:0,10000~",
+    "~+UUDATA:3,1460~",
+    "~+UUDPC:3,1,0,112233445566p,670~",
+    "~+UUBTB:112233445566p,255~",
+    "~+UUBTUC:112233445566p,4294967295~",
+    "~+UUBTUPD:112233445566p,1000000000~",
+    "~+UUBTUPE:112233445566p~",
+    "~+UUBTACLC:0,1,CCF9578E0D8Ap~",
+    "~+UUBTACLD:65535~",
+    "~+UUBTGRR:0,35~",
+    "~+UUBTGRW:0,35,,100~",
+    "~+UUBTGIC:10,9999~",
+    "~+UUBTGN:0,33,00FF~",
+    "~+UUBTGI:0,33,~",
 ];
 
 const W36_LINES: [&str; 15] = [

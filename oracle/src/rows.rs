@@ -3,15 +3,18 @@
 
 use crate::judged::w26x::at_protocol as w26;
 use crate::judged::w36x::at_protocol as w36;
-use Value::{Case, Data, IsIpv6, Number, Text};
+use Value::{Case, Data, IsIpv6, Text};
 
 #[derive(PartialEq)]
 pub enum Value<'a> {
-    Number(u16),
+    /// Of 8, 16 or 32 bits.
+    Number(u32),
     /// The type field of +UUDPC: `2` or `3` in a line.
     IsIpv6(bool),
+    /// The type field of +UUDPC: `1` in a line. The Rust's enum has no field for it, so it is not printed.
+    TypeBluetooth,
     /// An enum case: its name, and its number in a line.
-    Case(&'static str, u16),
+    Case(&'static str, u32),
     Text(&'a str),
     Data(&'a [u8]),
 }
@@ -34,27 +37,27 @@ pub fn of26<'a>(event: &w26::ATEvent<'a>) -> Option<Row<'a>> {
     use w26::ATEvent::*;
     match *event {
         PeerConnectedIP { .. } => peer_connected(event),
-        PeerDisconnected { peer_handle: h } => row("PeerDisconnected", "+UUDPD", vec![Number(h)]),
+        PeerDisconnected { peer_handle: h } => row("PeerDisconnected", "+UUDPD", vec![number(h)]),
         WifiLinkConnected { conn_id, bssid, channel } => {
-            row("WifiLinkConnected", "+UUWLE", vec![Number(conn_id), Text(bssid), Number(channel)])
+            row("WifiLinkConnected", "+UUWLE", vec![number(conn_id), Text(bssid), number(channel)])
         }
         WifiLinkDisconnected { conn_id, ref reason } => {
-            row("WifiLinkDisconnected", "+UUWLD", vec![Number(conn_id), reason_value(reason)])
+            row("WifiLinkDisconnected", "+UUWLD", vec![number(conn_id), reason_value(reason)])
         }
-        WifiAccessPointUp { id } => row("WifiAccessPointUp", "+UUWAPU", vec![Number(id)]),
-        WifiAccessPointDown { id } => row("WifiAccessPointDown", "+UUWAPD", vec![Number(id)]),
+        WifiAccessPointUp { id } => row("WifiAccessPointUp", "+UUWAPU", vec![number(id)]),
+        WifiAccessPointDown { id } => row("WifiAccessPointDown", "+UUWAPD", vec![number(id)]),
         WifiAccessPointStationConnected { id, mac_addr } => {
-            row("WifiAccessPointStationConnected", "+UUWAPSTAC", vec![Number(id), Text(mac_addr)])
+            row("WifiAccessPointStationConnected", "+UUWAPSTAC", vec![number(id), Text(mac_addr)])
         }
         WifiAccessPointStationDisconnected { id } => {
-            row("WifiAccessPointStationDisconnected", "+UUWAPSTAD", vec![Number(id)])
+            row("WifiAccessPointStationDisconnected", "+UUWAPSTAD", vec![number(id)])
         }
         EthernetLinkUp => row("EthernetLinkUp", "+UUETHLU", vec![]),
         EthernetLinkDown => row("EthernetLinkDown", "+UUETHLD", vec![]),
-        NetworkUp { interface_id: id } => row("NetworkUp", "+UUNU", vec![Number(id)]),
-        NetworkDown { interface_id: id } => row("NetworkDown", "+UUND", vec![Number(id)]),
+        NetworkUp { interface_id: id } => row("NetworkUp", "+UUNU", vec![number(id)]),
+        NetworkDown { interface_id: id } => row("NetworkDown", "+UUND", vec![number(id)]),
         NetworkError { interface_id: id, code } => {
-            row("NetworkError", "+UUNERR", vec![Number(id), Number(code)])
+            row("NetworkError", "+UUNERR", vec![number(id), number(code)])
         }
         _ => None,
     }
@@ -74,9 +77,9 @@ fn peer_connected<'a>(event: &w26::ATEvent<'a>) -> Option<Row<'a>> {
     else {
         return None;
     };
-    let mut values = vec![Number(peer_handle), IsIpv6(is_ipv6), protocol_value(protocol)];
-    values.extend([Text(local_address), Number(local_port)]);
-    values.extend([Text(remote_address), Number(remote_port)]);
+    let mut values = vec![number(peer_handle), IsIpv6(is_ipv6), protocol_value(protocol)];
+    values.extend([Text(local_address), number(local_port)]);
+    values.extend([Text(remote_address), number(remote_port)]);
     row("PeerConnectedIP", "+UUDPC", values)
 }
 
@@ -104,24 +107,24 @@ fn reason_value(reason: &w26::WifiLinkDisconnectedReason) -> Value<'static> {
 pub fn of36<'a>(event: &w36::ATEvent<'a>) -> Row<'a> {
     use w36::ATEvent::*;
     let (case, name, values) = match *event {
-        SocketConnected { socket_id: id } => ("SocketConnected", "+UESOC", vec![byte(id)]),
-        SocketClosed { socket_id: id } => ("SocketClosed", "+UESOCL", vec![byte(id)]),
+        SocketConnected { socket_id: id } => ("SocketConnected", "+UESOC", vec![number(id)]),
+        SocketClosed { socket_id: id } => ("SocketClosed", "+UESOCL", vec![number(id)]),
         SocketDataAvailable { socket_id: id, length } => {
-            ("SocketDataAvailable", "+UESODA", vec![byte(id), Number(length)])
+            ("SocketDataAvailable", "+UESODA", vec![number(id), number(length)])
         }
         SocketDataBinary { socket_id: id, data } => {
-            ("SocketDataBinary", "+UESODB", vec![byte(id), Data(data)])
+            ("SocketDataBinary", "+UESODB", vec![number(id), Data(data)])
         }
         SocketDataBinaryFrom { socket_id, remote_ip, remote_port, data } => (
             "SocketDataBinaryFrom",
             "+UESODBF",
-            vec![byte(socket_id), Text(remote_ip), Number(remote_port), Data(data)],
+            vec![number(socket_id), Text(remote_ip), number(remote_port), Data(data)],
         ),
         WifiLinkUp { wlan_handle, bssid, channel } => {
-            ("WifiLinkUp", "+UEWLU", vec![Number(wlan_handle), Text(bssid), Number(channel)])
+            ("WifiLinkUp", "+UEWLU", vec![number(wlan_handle), Text(bssid), number(channel)])
         }
         WifiLinkDown { wlan_handle, reason } => {
-            ("WifiLinkDown", "+UEWLD", vec![Number(wlan_handle), Number(reason)])
+            ("WifiLinkDown", "+UEWLD", vec![number(wlan_handle), number(reason)])
         }
         WifiAccessPointStationAssociated { mac_addr } => {
             ("WifiAccessPointStationAssociated", "+UEWAPSA", vec![Text(mac_addr)])
@@ -139,6 +142,6 @@ pub fn of36<'a>(event: &w36::ATEvent<'a>) -> Row<'a> {
     Row { case, name, values }
 }
 
-fn byte(n: u8) -> Value<'static> {
-    Number(n.into())
+fn number(n: impl Into<u32>) -> Value<'static> {
+    Value::Number(n.into())
 }

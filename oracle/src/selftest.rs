@@ -4,7 +4,7 @@ use crate::answer::{self, Answerer, Outcome};
 use crate::classes::{self, Counts};
 use crate::judged::w26x::at_protocol::AtPacketError;
 use crate::judged::w26x::edm_protocol::{EdmPacket, EdmPacketError, EDM_PACKET_WIRE_OVERHEAD};
-use crate::{cases, generate, reach, record, recorded, rust};
+use crate::{cases, differences, generate, reach, record, recorded, rust};
 
 /// Enough draws for every class, and quick.
 const DRAWN: usize = 200_000;
@@ -63,6 +63,8 @@ fn other_facts() -> usize {
     let refused = refused == Some(Err(EdmPacketError::PacketEncodeTypeUnknown));
     let bare = rust::event26(b"\r\nUUNERR:0,1\r\n");
     let plus = rust::event26(b"\r\n+UUNERR:0,1\r\n");
+    let mut bluetooth = differences::BLUETOOTH_NAMES.iter();
+    let peer = rust::event26(b"\r\n+UUDPC:3,1,0,a,1\r\n");
     let facts = [
         ("a packet that is no command is refused with 9", refused),
         ("the Rust reads UUNERR", matches!(bare, Some(Ok(_)))),
@@ -70,10 +72,21 @@ fn other_facts() -> usize {
             "the Rust refuses +UUNERR with 16",
             matches!(plus, Some(Err(AtPacketError::EventUnknown))),
         ),
+        ("the Rust refuses each name of Bluetooth with 16", bluetooth.all(|name| is_unknown(name))),
+        (
+            "the Rust refuses +UUDPC with type 1 with 13",
+            matches!(peer, Some(Err(AtPacketError::TypeDecodeUnsupported))),
+        ),
         ("the Rust's EDM_PACKET_WIRE_OVERHEAD is 8", EDM_PACKET_WIRE_OVERHEAD == 8),
     ];
     let wrong = facts.iter().filter(|(_, holds)| !holds);
     wrong.inspect(|(fact, _)| println!("does not hold: {fact}")).count()
+}
+
+/// The Rust refuses the name in a line whose fields every event of that name has.
+fn is_unknown(name: &str) -> bool {
+    let line = format!("\r\n{name}:0,0,a,0\r\n");
+    matches!(rust::event26(line.as_bytes()), Some(Err(AtPacketError::EventUnknown)))
 }
 
 fn not_reached(what: &str, lines: &[u8]) -> usize {

@@ -15,6 +15,18 @@ const DIGITS: &[&[u8]] = &[b"0", b"1", b"2", b"3", b"5", b"6", b"9", b"+", b"-",
 /// The two names of one event, whole, and pieces of a line that has them.
 const PLUS: &[&[u8]] = &[b"+", b"UUNERR", b"U", b":", b",", b"7"];
 
+/// For the fields of a Bluetooth line: what ends one, what spells a number and what does not.
+const FIELDS: &[&[u8]] = &[b"0", b"1", b",", b"a", b"+"];
+
+/// For a line of four fields: so few that the strings may be long enough to spell it.
+const FEW: &[&[u8]] = &[b"0", b",", b"a"];
+
+/// All but the last digit of the largest number of 32 bits, and what may stand around it.
+const WIDEST: &[&[u8]] = &[b"429496729", b"0", b"4", b"5", b"6", b"+", b","];
+
+/// What the Bluetooth names have after `+UUBT`.
+const NAMES: &[&[u8]] = &[b"G", b"I", b"C", b"N", b"R", b"W", b"U", b"P", b"D", b"E", b"B", b"ACL"];
+
 /// Whole events of a W36 read, and pieces of them.
 const EVENTS: &[&[u8]] = &[
     b"\r\n+UESOC:1\r\n",
@@ -48,7 +60,7 @@ const fn set(
     Set { call, before, symbols, longest, after }
 }
 
-pub const SETS: [Set; 27] = [
+pub const SETS: [Set; 38] = [
     set(Call::W26, b"", MARKS, 4, b""),
     set(Call::W26, b"\r\n", MARKS, 4, b"\r\n"),
     set(Call::W26, b"\r\n+UUDPD", MARKS, 4, b""),
@@ -58,6 +70,18 @@ pub const SETS: [Set; 27] = [
     set(Call::W26, b"\r\n+UUDPC:1,3,", DIGITS, 3, b",,7,,8\r\n"),
     set(Call::W26, b"\r\n+UUWLD:1,", DIGITS, 3, b"\r\n"),
     set(Call::W26, b"\r\n", PLUS, 6, b"\r\n"),
+    set(Call::W26, b"\r\n+UUBT", NAMES, 3, b"\r\n"),
+    // Every name with this beginning reads these fields.
+    set(Call::W26, b"\r\n+UUBT", NAMES, 3, b":0,0,a,0\r\n"),
+    set(Call::W26, b"\r\n+UUBTACLD", MARKS, 3, b"\r\n"),
+    set(Call::W26, b"\r\n+UUBTACLD:", FIELDS, 5, b"\r\n"),
+    set(Call::W26, b"\r\n+UUBTACLC:", FIELDS, 5, b"\r\n"),
+    set(Call::W26, b"\r\n+UUBTB:", FIELDS, 5, b"\r\n"),
+    set(Call::W26, b"\r\n+UUBTB:,", DIGITS, 3, b"\r\n"),
+    set(Call::W26, b"\r\n+UUBTUC:a,", WIDEST, 4, b"\r\n"),
+    set(Call::W26, b"\r\n+UUBTGRW:", FEW, 7, b"\r\n"),
+    set(Call::W26, b"\r\n+UUDPC:3,1", FIELDS, 6, b"\r\n"),
+    set(Call::Again26 { size: 21 }, b"\r\n+UUBTGRW:1,2,", MARKS, 3, b",+03\r\n"),
     set(Call::W36, b"", MARKS, 4, b""),
     set(Call::W36, b"\r\n", MARKS, 4, b"\r\n"),
     set(Call::W36, b"\r\n+UESOC", MARKS, 4, b""),

@@ -4,7 +4,7 @@ use std::fmt::Debug;
 use std::io::Write;
 
 use crate::hex;
-use crate::judged::w26x::at_protocol::{ATEvent, ATResponse};
+use crate::judged::w26x::at_protocol::ATResponse;
 use crate::judged::w26x::edm_protocol::{ConnectEventType, EdmPacket, EdmPacketError};
 use crate::record::push_decimal;
 use crate::rows::{self, Row, Value};
@@ -50,8 +50,9 @@ pub fn row(out: &mut Vec<u8>, row: &Row) {
     word(out, row.case);
     for value in &row.values {
         match *value {
-            Value::Number(n) => number_after(out, n.into()),
+            Value::Number(n) => number_after(out, n as usize),
             Value::IsIpv6(yes) => number_after(out, yes.into()),
+            Value::TypeBluetooth => {}
             Value::Text(text) => hex_after(out, text.as_bytes()),
             Value::Data(data) => hex_after(out, data),
             Value::Case(name, _) => {
@@ -62,9 +63,10 @@ pub fn row(out: &mut Vec<u8>, row: &Row) {
     }
 }
 
-pub fn event26(out: &mut Vec<u8>, event: &ATEvent) -> Result<(), &'static str> {
-    row(out, &rows::of26(event).ok_or(UNLISTED)?);
-    Ok(())
+/// An event in a frame, 0041.
+pub fn event_packet(out: &mut Vec<u8>, event: &Row) {
+    word(out, "ATEvent ");
+    row(out, event);
 }
 
 pub fn response(out: &mut Vec<u8>, response: &ATResponse) {
@@ -105,10 +107,7 @@ pub fn packet(out: &mut Vec<u8>, packet: &EdmPacket) -> Result<(), &'static str>
             word(out, "ATResponse ");
             response(out, inner);
         }
-        EdmPacket::ATEvent(event) => {
-            word(out, "ATEvent ");
-            event26(out, event)?;
-        }
+        EdmPacket::ATEvent(event) => event_packet(out, &rows::of26(event).ok_or(UNLISTED)?),
         EdmPacket::ResendConnectEvents => word(out, "ResendConnectEvents"),
         EdmPacket::StartEvent => word(out, "StartEvent"),
         EdmPacket::DataCommand { .. } => return Err(UNLISTED),

@@ -59,7 +59,8 @@ fn line(row: &Row) -> Vec<u8> {
 
 fn field(line: &mut Vec<u8>, value: &Value) {
     match *value {
-        Value::Number(n) | Value::Case(_, n) => push_decimal(line, n.into()),
+        Value::Number(n) | Value::Case(_, n) => push_decimal(line, n as usize),
+        Value::TypeBluetooth => line.push(b'1'),
         Value::IsIpv6(yes) => line.push(if yes { b'3' } else { b'2' }),
         Value::Text(text) => line.extend_from_slice(text.as_bytes()),
         Value::Data(data) => line.extend_from_slice(data),

@@ -11,12 +11,13 @@ use Rattle.text.specs.Utf8.{table as table37, seqLen, passed, validUpTo, utf8, 
 use Rattle.at.specs.Refusal.{OrRefused, good}
 use Rattle.at.specs.Written.{answerTo, after}
 use Rattle.at.specs.Event.{readField, takeKind, takeKinds, readRow}
-use Rattle.at.specs.Line.{before, endsIn, ended, framed, search, fieldsAfter, readText, readLine}
+use Rattle.at.specs.Line.{before, endsIn, ended, framed, rowsNamed, fieldsAfter, byType, readText, readLine}
 use Rattle.at.specs.Binary.{fieldsUpTo, readFields, findMarker, readData, readBody, tryRows}
 use Rattle.at.specs.Response.{readRest, readResponse, readBody as readResponseBody}
 use Rattle.at.specs.W26 as w26
+use Rattle.at.specs.W26.{UUDPD}
 use Rattle.at.specs.W36 as w36
-use Rattle.at.specs.W36.{binaryTable}
+use Rattle.at.specs.W36.{UESOC, UEWSNU, UESODB, binaryTable}
 use Rattle.edm.specs.Packet.{identifiers, carried}
 use Rattle.edm.specs.Frame.{readFrame}
 use Rattle.edm.specs.Command.{frame, command, requestOf, toSend}
@@ -73,5 +74,5 @@ examples =
     ∷ []
 
 pub all-hold : All examples
-unfolding same startsWith firstOf lastBelow lastOf fieldsFrom digitsFrom under digits signed number table37 seqLen passed validUpTo utf8 insideCharacter readField takeKind takeKinds readRow before endsIn ended framed search fieldsAfter readText readLine fieldsUpTo readFields findMarker readData readBody tryRows readRest readResponse readResponseBody w26.table w36.table binaryTable identifiers carried readFrame frame toSend
+unfolding same startsWith firstOf lastBelow lastOf fieldsFrom digitsFrom under digits signed number table37 seqLen passed validUpTo utf8 insideCharacter readField takeKind takeKinds readRow before endsIn ended framed rowsNamed fieldsAfter byType readText readLine fieldsUpTo readFields findMarker readData readBody tryRows readRest readResponse readResponseBody w26.table w36.table binaryTable identifiers carried readFrame frame toSend
 all-hold = (refl, (refl, (refl, (refl, (refl, (refl, (refl, (refl, (refl, (refl, (refl, (refl, (refl, (refl, (refl, (refl, (refl, (refl, (refl, tt)))))))))))))))))))

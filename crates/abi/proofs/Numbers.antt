@@ -13,8 +13,8 @@ use Rattle.text.specs.Field.{Field, field}
 use Rattle.text.specs.Utf8.{utf8, insideCharacter}
 use Rattle.text.proofs.Bools.{either}
 use Rattle.at.specs.Refusal.{OrRefused, good, refused}
-use Rattle.at.specs.Event.{Kind, bits, text, ipType, protocol, reason, Row, nameOf, kindsOf, Value, ReadEvent, eventTo, upTo, listed, isProtocol, isReason, readField, Taken, took, andRest, takeKind, Read, values, prepend, andThen, takeKinds, withValues, readRow}
-use Rattle.at.specs.Line.{before, endsIn, Radio, Body, body, ended, framed, search, fieldsAfter, readNamed, readText, readFramed, readLine}
+use Rattle.at.specs.Event.{Kind, bits, text, ipType, btType, protocol, reason, Row, kindsOf, Value, Event, ReadEvent, eventTo, upTo, listed, isProtocol, isReason, readField, Taken, took, andRest, takeKind, Read, values, prepend, andThen, takeKinds, withValues, readRow}
+use Rattle.at.specs.Line.{before, endsIn, Radio, Body, body, ended, framed, rowsNamed, fieldsAfter, orNext, byType, byName, readText, readFramed, readLine}
 use Rattle.at.specs.Binary.{readFields, marker, findMarker, announced, Data, dataAt, readData, withData, readMarked, readBody, Tried, notBinary, tried, prefix, tryRows}
 use Rattle.at.specs.Response.{readRest, readResponse}
 use Rattle.at.specs.W26.{w26}
@@ -49,6 +49,7 @@ unfolding readField
 field-ok (bits w) p b = listed-ok (λ n. true) (number w b)
 field-ok text p b = tt
 field-ok ipType p b = either Ok (same b (bytes "2")) tt (either Ok (same b (bytes "3")) tt (known 13 refl refl))
+field-ok btType p b = either Ok (same b (bytes "1")) tt (known 13 refl refl)
 field-ok protocol p b = listed-ok isProtocol (number 8 b)
 field-ok reason p b = listed-ok isReason (number 8 b)
 
@@ -79,10 +80,18 @@ row-ok r fs = go (takeKinds (kindsOf r) fs) (kinds-ok (kindsOf r) fs)
     go (good (values vs rest)) h = tt
     go (refused n) h = h
 
-search-ok : (rows : List Row) (name : List ℕ) → Ok (search rows name)
-unfolding search
-search-ok [] name = known 16 refl refl
-search-ok (r ∷ rows) name = either Ok (same name (nameOf r)) tt (search-ok rows name)
+by-type-ok : (rows : List Row) (fs : List Field) → Ok (byType rows fs)
+unfolding byType
+by-type-ok [] fs = known 13 refl refl
+by-type-ok (r ∷ rows) fs = go (readRow r fs) (row-ok r fs) (by-type-ok rows fs)
+  where
+    go : (o : OrRefused Event) → Ok o → Ok (byType rows fs) → Ok (orNext o (byType rows fs))
+    go (good e) h k = tt
+    go (refused n) h k = either Ok (eqb n 13) k h
+
+by-name-ok : (rows : List Row) (fs : List Field) → Ok (byName rows fs)
+by-name-ok [] fs = known 16 refl refl
+by-name-ok (r ∷ rows) fs = by-type-ok (r ∷ rows) fs
 
 framed-ok : (p : ℕ) (s : List ℕ) → Ok (framed p s)
 unfolding framed ended
@@ -92,9 +101,7 @@ framed-ok p s =
 
 read-ok : (radio : Radio) (f : OrRefused Body) → Ok f → Ok (readFramed radio f)
 unfolding readText
-read-ok radio (good (body p t)) h =
-    let name = before (bytes ":") (radio .kept t) in
-    handed-on (λ r. readNamed r (fieldsAfter p (radio .kept t))) (λ r. row-ok r _) (λ n. refl) (search (radio .rows) name) (search-ok (radio .rows) name)
+read-ok radio (good (body p t)) h = by-name-ok (rowsNamed (radio .rows) (before (bytes ":") (radio .kept t))) (fieldsAfter p (radio .kept t))
 read-ok radio (refused n) h = h
 
 pub line-ok : (radio : Radio) (p : ℕ) (s : List ℕ) → Ok (readLine radio p s)

@@ -19,8 +19,8 @@ use Rattle.text.proofs.BytesLaws.{starts-length}
 use Rattle.text.proofs.Utf8Joined.{utf8-nil}
 use Rattle.text.proofs.Bools.{either}
 use Rattle.at.specs.Refusal.{OrRefused, good, refused}
-use Rattle.at.specs.Event.{Kind, bits, text, ipType, protocol, reason, Row, kindsOf, Value, num, place, Event, event, ReadEvent, eventTo, upTo, listed, isProtocol, isReason, readField, Taken, took, andRest, takeKind, Read, values, prepend, andThen, takeKinds, withValues, readRow}
-use Rattle.at.specs.Line.{before, endsIn, Radio, Body, body, framed, search, fieldsAfter, readNamed, readText, readFramed, readLine}
+use Rattle.at.specs.Event.{Kind, bits, text, ipType, btType, protocol, reason, Row, kindsOf, Value, num, place, Event, event, ReadEvent, eventTo, upTo, listed, isProtocol, isReason, readField, Taken, took, andRest, takeKind, Read, values, prepend, andThen, takeKinds, withValues, readRow}
+use Rattle.at.specs.Line.{before, endsIn, Radio, Body, body, framed, rowsNamed, fieldsAfter, orNext, byType, byName, readText, readFramed, readLine}
 use Rattle.at.specs.Binary.{fieldsUpTo, readFields, findMarker, announced, Data, dataAt, readData, withData, readMarked, readBody, Tried, notBinary, tried, prefix, tryRows}
 use Rattle.at.specs.Response.{byLast, readRest, readResponse, readBody as readResponseBody}
 use Rattle.at.specs.W26.{w26}
@@ -125,6 +125,7 @@ module _ (n : ℕ) where
   field-inside ipType p b h =
       let three : OrRefused Value = cond (same b (bytes "3")) (good (num 3)) (refused 13) in
       either (IfGood (Inside n)) (same b (bytes "2")) tt (either (IfGood (Inside n)) (same b (bytes "3")) tt tt)
+  field-inside btType p b h = either (IfGood (Inside n)) (same b (bytes "1")) tt tt
   field-inside protocol p b h = listed-inside isProtocol (number 8 b)
   field-inside reason p b h = listed-inside isReason (number 8 b)
 
@@ -161,13 +162,22 @@ module _ (n : ℕ) where
 
   -- A line
 
+  by-type-inside : (rows : List Row) (fs : List Field) → FieldsInside n fs → IfGood (EventInside n) (byType rows fs)
+  unfolding byType
+  by-type-inside [] fs h = tt
+  by-type-inside (r ∷ rs) fs h = go (readRow r fs) (row-inside r fs h) (by-type-inside rs fs h)
+    where
+      go : (o : OrRefused Event) → IfGood (EventInside n) o → IfGood (EventInside n) (byType rs fs) → IfGood (EventInside n) (orNext o (byType rs fs))
+      go (good e) i j = i
+      go (refused m) i j = either (IfGood (EventInside n)) (eqb m 13) j tt
+
+  by-name-inside : (rows : List Row) (fs : List Field) → FieldsInside n fs → IfGood (EventInside n) (byName rows fs)
+  by-name-inside [] fs h = tt
+  by-name-inside (r ∷ rs) fs h = by-type-inside (r ∷ rs) fs h
+
   pub line-text-inside : (rows : List Row) (p : ℕ) (t : List ℕ) → p + length t ≤ n → IfGood (EventInside n) (readText rows p t)
   unfolding readText
-  line-text-inside rows p t h = go (search rows (before (bytes ":") t))
-    where
-      go : (r : OrRefused Row) → IfGood (EventInside n) (readNamed r (fieldsAfter p t))
-      go (good r) = row-inside r (fieldsAfter p t) (after-inside p t h)
-      go (refused m) = tt
+  line-text-inside rows p t h = by-name-inside (rowsNamed rows (before (bytes ":") t)) (fieldsAfter p t) (after-inside p t h)
 
   up-to-place : (q : ℕ) (e : OrRefused Event) → q ≤ n → IfGood (EventInside n) e → AnswerInside n (upTo q e)
   up-to-place q (good (event r vs)) h i = (i, h)

@@ -1,5 +1,7 @@
 pub mod FieldLaws
 pub mod LineLaws
+pub mod RowsLaws
+pub mod TypeLaws
 pub mod TakeLaws
 pub mod NameLaws
 pub mod TableLaws

@@ -9,7 +9,8 @@ use lib.Dec.{eqb}
 use Rattle.text.specs.Bytes.{same}
 use Rattle.text.proofs.Bools.{and-left, and-right}
 use Rattle.at.specs.Refusal.{good}
-use Rattle.at.specs.Event.{Row, nameOf, Event, event}
+use Rattle.at.specs.Event.{Row, Event, event}
+use Rattle.at.specs.Table.{spelledRow}
 use Rattle.at.specs.Parts.{valueOf, valuesOf, rowNo, withRow, partOf, Apart}
 use Rattle.at.specs.declared.parts.Value.{Value}
 use Rattle.at.specs.declared.parts.Value.the-variants as value
@@ -21,25 +22,25 @@ pub part-of-value : (v : Value) → partOf (valueOf v) ≡ v
 part-of-value (value.Number n) = refl
 part-of-value (value.Place t) = refl
 
--- the number of the first row that has a name; and that each row of a table is the first of its name, counted from a number on
+-- the number of the first row that has these bytes; and that each row of a table is the first with its bytes, counted from a number on
 unfoldable pub numberOf : List Row → List ℕ → ℕ
-numberOf [] name = 0
-numberOf (r ∷ rs) name = cond (same name (nameOf r)) 0 (suc (numberOf rs name))
+numberOf [] b = 0
+numberOf (r ∷ rs) b = cond (same b (spelledRow r)) 0 (suc (numberOf rs b))
 
 unfoldable pub firsts : List Row → ℕ → List Row → Bool
 firsts rows i [] = true
-firsts rows i (r ∷ rs) = eqb (numberOf rows (nameOf r)) i && firsts rows (suc i) rs
+firsts rows i (r ∷ rs) = eqb (numberOf rows (spelledRow r)) i && firsts rows (suc i) rs
 
-numbered : (rows : List Row) (k : ℕ) (rs : List Row) (i : ℕ) (r : Row) → firsts rows k rs ≡ true → rowNo rs i ≡ good r → numberOf rows (nameOf r) ≡ k + i
+numbered : (rows : List Row) (k : ℕ) (rs : List Row) (i : ℕ) (r : Row) → firsts rows k rs ≡ true → rowNo rs i ≡ good r → numberOf rows (spelledRow r) ≡ k + i
 unfolding rowNo firsts
 numbered rows k [] i r t e = let z : _≡_ {A = ℕ} 0 1 = cc in absurd (eqb-false 0 1 refl z)
 numbered rows k (q ∷ rs) zero r t e =
     let f : q ≡ r = cc in
-    let n = eqb-true (numberOf rows (nameOf q)) k (and-left (eqb (numberOf rows (nameOf q)) k) (firsts rows (suc k) rs) t) in
+    let n = eqb-true (numberOf rows (spelledRow q)) k (and-left (eqb (numberOf rows (spelledRow q)) k) (firsts rows (suc k) rs) t) in
     let z : k ≡ k + 0 = omega arith in
     rw f at (n ∙ z)
 numbered rows k (q ∷ rs) (suc i) r t e =
-    numbered rows (suc k) rs i r (and-right (eqb (numberOf rows (nameOf q)) k) (firsts rows (suc k) rs) t) e ∙ omega arith
+    numbered rows (suc k) rs i r (and-right (eqb (numberOf rows (spelledRow q)) k) (firsts rows (suc k) rs) t) e ∙ omega arith
 
 -- the row and the values of parts are those of their event
 taken : (rows : List Row) (e : Event) (p : Parts) → Apart rows e p → (r : Row) × (rowNo rows (p .row) ≡ good r) × (good (event r (valuesOf p)) ≡ good e)
@@ -56,6 +57,6 @@ one-parts rows t e p q a b =
     let v : valuesOf p ≡ valuesOf q = cc in
     let i = numbered rows 0 rows (p .row) (x .0) t (x .1) in
     let j = numbered rows 0 rows (q .row) (y .0) t (y .1) in
-    let n : numberOf rows (nameOf (x .0)) ≡ numberOf rows (nameOf (y .0)) = rw r in
+    let n : numberOf rows (spelledRow (x .0)) ≡ numberOf rows (spelledRow (y .0)) = rw r in
     let m : p .row ≡ q .row = omega (arith, i, j, n) in
     a .tidy ∙ rw (m, v) (sym (b .tidy))

@@ -1,5 +1,5 @@
 -- Laws of a table in bytes: where a row stands in it, and that the row found there is the one that a search of the table finds.
-use Prim.Native.Nat.{ℕ, zero, suc, _+_, _*_, _≤_, _<_, zero-le}
+use Prim.Native.Nat.{ℕ, zero, suc, _+_, _*_, _≤_, _<_}
 use mathlib.Core.Path.{_≡_, refl, sym, ap, _∙_}
 use mathlib.Core.List.{List, [], _∷_, _++_, append-assoc}
 use mathlib.Core.Bool.{true, _&&_}
@@ -14,12 +14,11 @@ use Rattle.text.specs.Bytes.{bytes, same, part}
 use Rattle.text.specs.Field.{Field as Part}
 use Rattle.text.proofs.Bools.{and-left, and-right}
 use Rattle.at.specs.Event.{Kind, Row, nameOf, kindsOf as rowKinds, Read, values, withValues, takeKinds, readRow}
-use Rattle.at.specs.Line.{readNamed}
 use Rattle.at.specs.Refusal.{OrRefused, good, refused, refusalNo}
 use Rattle.at.specs.Table.{lettersOf, filled, spelledRow, spelled, nameAt, lettersAt}
 use Rattle.at.specs.Parts.{rowNo}
 use Rattle.at.specs.TableSteps.{roomy, Tabled}
-use Rattle.at.specs.Steps.{kindsIn, kindsOf, Legible, lettersIn, valuesOf, withoutRest, stopped, Took, withFields, orStopped, outcomeBy}
+use Rattle.at.specs.Steps.{kindsIn, kindsOf, Legible, lettersIn, valuesOf, withoutRest, stopped, Took, withFields, orStopped, outcomeBy, readFound}
 use Rattle.at.specs.declared.AtPacketError.{AtPacketError}
 use Rattle.at.specs.declared.table.Kinds.{Kinds}
 use Rattle.at.specs.declared.field.Stop.{Stop}
@@ -69,14 +68,14 @@ row-listed [] i h = absurd (not-suc-le-zero h)
 row-listed (r ∷ rs) zero h = (r, refl, refl)
 row-listed (r ∷ rs) (suc i) h = row-listed rs i (le-of-suc-le-suc h)
 
--- a number that is none of the first n, as the last arm of a `match` has it, is n or more
-abbrev pub NoneOf : ℕ → ℕ → Type 0
-NoneOf i zero = Unit
-NoneOf i (suc n) = NoneOf i n × (i ≡ n → ⊥)
+-- a number from k on that is none of the next n, as the last arm of a `match` has it, is k + n or more
+abbrev pub NoneOf : ℕ → ℕ → ℕ → Type 0
+NoneOf i k zero = Unit
+NoneOf i k (suc n) = NoneOf i k n × (i ≡ k + n → ⊥)
 
-pub none-of : (i n : ℕ) → NoneOf i n → n ≤ i
-none-of i zero m = zero-le
-none-of i (suc n) m = let h : n ≤ i = none-of i n (m .0) in let f : i ≡ n → ⊥ = m .1 in omega arith
+pub none-of : (i k n : ℕ) → k ≤ i → NoneOf i k n → k + n ≤ i
+none-of i k zero h m = omega arith
+none-of i k (suc n) h m = let g : k + n ≤ i = none-of i k n h (m .0) in let f : i ≡ k + n → ⊥ = m .1 in omega arith
 
 -- what stands in a table in bytes for the row r with the number i
 pub record Stands (s : List ℕ) (i : ℕ) (r : Row) : Type 0 where
@@ -204,7 +203,7 @@ took-outcome rows row q r t e k = go (t .stop) r (k .same-row) (k .same-read)
 
 -- the fields taken by the letters of a row are those that the definition reads
 pub outcome-read : (rows : List Row) (row : ℕ) (k : Kinds) (fs : List Part) (t : Taken) → row < length rows → Legible rows
-    → take (k .count) (k .letters) ≡ lettersIn (rowNo rows row) → Took row (kindsOf k) (takeKinds (kindsOf k) fs) t → outcomeBy rows t ≡ readNamed (rowNo rows row) fs
+    → take (k .count) (k .letters) ≡ lettersIn (rowNo rows row) → Took row (kindsOf k) (takeKinds (kindsOf k) fs) t → outcomeBy rows t ≡ readFound (rowNo rows row) fs
 unfolding readRow
 outcome-read rows row k fs t h l m took =
     let q = row-listed rows row h in

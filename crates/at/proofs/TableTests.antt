@@ -1,19 +1,25 @@
--- What is computed once over each table: its names and letters have room in a row, its letters say its kinds, no name stands twice, and of the W36
--- rows those of text stand in front.
+-- What is computed once over each table: its names and letters have room in a row, its letters say its kinds, no row stands twice, no name of the W36
+-- rows does, and of those the ones of text stand in front.
 use mathlib.Core.Path.{_≡_, refl}
 use mathlib.Core.Bool.{true}
-use lib.ListN.{take}
+use lib.ListN.{length, take, drop}
 use Rattle.text.specs.Bytes.{same}
 use Rattle.at.specs.Table.{spelled}
 use Rattle.at.specs.TableSteps.{roomy}
 use Rattle.at.specs.Steps.{kindOf, Legible}
 use Rattle.at.specs.W26 as w26
 use Rattle.at.specs.W36 as w36
+use Rattle.at.specs.Line.{rowsNamed}
+use Rattle.at.proofs.RowsLaws.{distinct}
 use Rattle.at.proofs.PartsLaws.{numberOf, firsts}
 
-pub roomy-w26 : roomy w26.table ≡ true
+pub roomy-w26 : (roomy w26.table ≡ true) × (roomy (take 13 w26.table) ≡ true) × (roomy (drop 13 w26.table) ≡ true)
 unfolding roomy w26.table
-roomy-w26 = refl
+roomy-w26 = (refl, refl, refl)
+
+pub rows-w26 : length w26.table ≡ 26
+unfolding w26.table
+rows-w26 = refl
 
 pub legible-w26 : Legible w26.table
 unfolding kindOf w26.table
@@ -30,6 +36,10 @@ legible-w36 = refl
 pub text-in-front : take 260 (spelled w36.rows36) ≡ spelled w36.table
 unfolding spelled w36.table w36.binaryTable w36.rows36
 text-in-front = refl
+
+pub distinct-w36 : distinct w36.table ≡ true
+unfolding distinct rowsNamed same w36.table
+distinct-w36 = refl
 
 pub firsts-w26 : firsts w26.table 0 w26.table ≡ true
 unfolding firsts numberOf same w26.table

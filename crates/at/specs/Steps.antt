@@ -3,17 +3,19 @@ use Prim.Native.Nat.{ℕ, suc, _%_, _^_, _≤_, _<_}
 use Prim.Native.Char.{code}
 use mathlib.Core.Path.{_≡_}
 use mathlib.Core.List.{List, [], _∷_, map}
-use mathlib.Core.Bool.{cond}
+use mathlib.Core.Bool.{Bool, false, cond}
 use lib.Dec.{eqb}
 use lib.ListN.{length, take, drop, getD}
 use Rattle.at.specs.Refusal.{OrRefused, good, refused, refusalNo}
-use Rattle.at.specs.Event.{Kind, bits, text, ipType, protocol, reason, Row, kindsOf as rowKinds, Value, num, place, at, Event, event, Read, values}
-use Rattle.at.specs.Line.{Body, body}
+use Rattle.text.specs.Field.{Field as Part}
+use Rattle.at.specs.Event.{Kind, bits, text, ipType, btType, protocol, reason, Row, kindsOf as rowKinds, Value, num, place, at, Event, event, Read, values, readRow}
+use Rattle.at.specs.Line.{Body, body, rowsNamed, byType}
 use Rattle.at.specs.Table.{lettersOf}
 use Rattle.at.specs.TableSteps.{Tabled}
 use Rattle.at.specs.Parts.{rowNo}
 use Rattle.at.specs.Binary.{Data, dataAt}
 use Rattle.at.specs.W26 as w26
+use Rattle.at.specs.declared.Text.{Text}
 use Rattle.at.specs.declared.binary.Marked as mark
 use Rattle.at.specs.declared.binary.Data as data·
 use Rattle.at.specs.declared.binary.AddressFields as address
@@ -40,6 +42,9 @@ reasonOf n =
     (cond (eqb n 1) why.RemoteClose
     (cond (eqb n 2) why.OutOfRange (cond (eqb n 3) why.Roaming (cond (eqb n 4) why.SecurityProblems why.NetworkDisabled))))
 
+abbrev pub textOf : Field → Text
+textOf f = record { start = f .value; len = f .len }
+
 abbrev pub noField : Field
 noField = record { value = 0; len = 0 }
 
@@ -48,6 +53,7 @@ abbrev pub valueOf : Kind → Field → Value
 valueOf (bits w) f = num (f .value % 2 ^ w)
 valueOf text f = place (f .value) (f .len)
 valueOf ipType f = num (w26.typeNo (eqb (f .value) 3))
+valueOf btType f = num 1
 valueOf protocol f = num (w26.profileNo (profileOf (f .value)))
 valueOf reason f = num (w26.reasonNo (reasonOf (f .value)))
 
@@ -95,7 +101,10 @@ addressOf (address.the-variants.Refused e) = refused (refusalNo e)
 unfoldable pub kindOf : ℕ → Kind
 kindOf c =
     cond (eqb c (code "b")) (bits 8)
-    (cond (eqb c (code "w")) (bits 16) (cond (eqb c (code "i")) ipType (cond (eqb c (code "p")) protocol (cond (eqb c (code "r")) reason text))))
+    (cond (eqb c (code "w")) (bits 16)
+    (cond (eqb c (code "l")) (bits 32)
+    (cond (eqb c (code "i")) ipType
+    (cond (eqb c (code "t")) btType (cond (eqb c (code "p")) protocol (cond (eqb c (code "r")) reason text))))))
 
 abbrev pub kindsIn : List ℕ → List Kind
 kindsIn cs = map kindOf cs
@@ -115,10 +124,10 @@ Legible rows = map (λ r. kindsIn (lettersOf r)) rows ≡ map rowKinds rows
 abbrev pub SomeTable : List ℕ → Type 0
 SomeTable s = (rows : List Row) × Tabled rows s
 
--- the row that a search finds, by its number
-abbrev pub Finds : List Row → OrRefused Row → named.Named → Type 0
-Finds rows h (named.the-variants.Row i) = (i < length rows) × (h ≡ rowNo rows i)
-Finds rows h named.the-variants.Nothing = h ≡ refused 16
+-- the first row with a name, by its number, and the rows with that name after it
+abbrev pub Finds : List Row → List ℕ → named.Named → Type 0
+Finds rows name (named.the-variants.Row i) = (r : Row) × (i < length rows) × (rowNo rows i ≡ good r) × (rowsNamed rows name ≡ r ∷ rowsNamed (drop (suc i) rows) name)
+Finds rows name named.the-variants.Nothing = rowsNamed rows name ≡ []
 
 -- the letters of a row, and none where there is no row
 abbrev pub lettersIn : OrRefused Row → List ℕ
@@ -140,17 +149,37 @@ orStopped o (stop.the-variants.Refused e) = refused (refusalNo e)
 abbrev pub outcomeBy : List Row → Taken → OrRefused Event
 outcomeBy rows t = orStopped (eventBy rows t) (t .stop)
 
--- parts with at most three values
-abbrev pub threeParts : ℕ → ℕ → value.Value → value.Value → value.Value → Parts
-threeParts i n a b c =
+-- what was taken says this outcome, and where nothing stopped it, for a row of the table
+pub record Settles (rows : List Row) (o : OrRefused Event) (t : Taken) : Type 0 where
+  pub listed : t .stop ≡ stop.the-variants.Nowhere → t .row < length rows
+  pub outcome : outcomeBy rows t ≡ o
+
+abbrev pub isUnsupported : stop.Stop → Bool
+isUnsupported stop.the-variants.Nowhere = false
+isUnsupported (stop.the-variants.Refused e) = eqb (refusalNo e) 13
+
+-- the event of a row that was found; of the first row of `+UUDPC`, with the second after it
+abbrev pub readFound : OrRefused Row → List Part → OrRefused Event
+readFound (good r) fs = readRow r fs
+readFound (refused n) fs = refused n
+
+abbrev pub readPeer : ℕ → List Part → OrRefused Event
+readPeer i fs = cond (eqb i 0) (byType (w26.UUDPC ∷ w26.UUDPC-BT ∷ []) fs) (readFound (rowNo w26.table i) fs)
+
+-- parts with at most five values, and with at most three
+abbrev pub fiveParts : ℕ → ℕ → value.Value → value.Value → value.Value → value.Value → value.Value → Parts
+fiveParts i n a b c d e =
     record {
       row = i;
       count = n;
       a = a;
       b = b;
       c = c;
-      d = value.the-variants.Number 0;
-      e = value.the-variants.Number 0;
+      d = d;
+      e = e;
       f = value.the-variants.Number 0;
       g = value.the-variants.Number 0;
     }
+
+abbrev pub threeParts : ℕ → ℕ → value.Value → value.Value → value.Value → Parts
+threeParts i n a b c = fiveParts i n a b c (value.the-variants.Number 0) (value.the-variants.Number 0)

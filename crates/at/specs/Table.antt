@@ -7,13 +7,14 @@ use mathlib.Core.Bool.{cond}
 use lib.Dec.{eqb}
 use lib.ListN.{length, take, getD}
 use Rattle.text.specs.Bytes.{bytes, part}
-use Rattle.at.specs.Event.{Kind, bits, text, ipType, protocol, reason, Row, nameOf, kindsOf}
+use Rattle.at.specs.Event.{Kind, bits, text, ipType, btType, protocol, reason, Row, nameOf, kindsOf}
 
 -- the letter of a kind
 abbrev pub letterOf : Kind → ℕ
-letterOf (bits w) = cond (eqb w 8) (code "b") (code "w")
+letterOf (bits w) = cond (eqb w 8) (code "b") (cond (eqb w 16) (code "w") (code "l"))
 letterOf text = code "s"
 letterOf ipType = code "i"
+letterOf btType = code "t"
 letterOf protocol = code "p"
 letterOf reason = code "r"
 

@@ -1,5 +1,6 @@
 // The fields of an event, taken from a walk one after the other by the letters of their kinds: each is first there, then of its form. `b` is a
-// number of 8 bits, `w` of 16, `i` the type of an address, `p` a protocol, `r` a reason, and any other letter a text.
+// number of 8 bits, `w` of 16, `l` of 32, `i` the type of an IP peer, `t` of a Bluetooth peer, `p` a protocol, `r` a reason, and any other letter a
+// text.
 use crate::AtPacketError;
 use crate::table::Kinds;
 use text::bytes::part;
@@ -8,13 +9,15 @@ use text::field::Fields;
 use text::field::Next;
 use text::number::Number8;
 use text::number::Number16;
+use text::number::Number32;
 use text::number::read8;
 use text::number::read16;
+use text::number::read32;
 use text::walk::field_at;
 ghost use mathlib.Core.Path.{_≡_};
 ghost use Prim.Native.Nat.{ℕ, _≤_};
 ghost use Rattle.text.specs.FieldSteps.{left};
-ghost use Rattle.at.specs.Event.{readField, takeKinds, bits, ipType, protocol, reason};
+ghost use Rattle.at.specs.Event.{readField, takeKinds, bits, ipType, btType, protocol, reason};
 ghost use Rattle.at.specs.Steps.{kindOf, kindsOf, Held, noField, oneOf, Took};
 
 // A field that was taken: a number, or the place and the length of a text.
@@ -54,8 +57,19 @@ fn word_field(field: &[u8]) -> FieldAnswer
     }
 }
 
-// The type of an address: exactly `2` or `3`.
-fn type_field(field: &[u8]) -> FieldAnswer
+fn long_field(field: &[u8]) -> FieldAnswer
+    ensures { λ r. ⌜ ((p : ℕ) → oneOf (bits 32) r ≡ readField (bits 32) p (now (field .entry))) ⌝ }
+{
+    match read32(field) {
+        Number32::Value(n) => number(n as usize),
+        Number32::Refused => FieldAnswer::Refused(
+            AtPacketError::TypeDecodeParameterDataTypeInvalid,
+        ),
+    }
+}
+
+// The type of an IP peer: exactly `2` or `3`.
+fn ip_type_field(field: &[u8]) -> FieldAnswer
     ensures { λ r. ⌜ ((p : ℕ) → oneOf ipType r ≡ readField ipType p (now (field .entry))) ⌝ }
 {
     if same(field, b"2") {
@@ -63,6 +77,16 @@ fn type_field(field: &[u8]) -> FieldAnswer
     }
     if same(field, b"3") {
         return number(3);
+    }
+    FieldAnswer::Refused(AtPacketError::TypeDecodeUnsupported)
+}
+
+// The type of a Bluetooth peer: exactly `1`.
+fn bt_type_field(field: &[u8]) -> FieldAnswer
+    ensures { λ r. ⌜ ((p : ℕ) → oneOf btType r ≡ readField btType p (now (field .entry))) ⌝ }
+{
+    if same(field, b"1") {
+        return number(1);
     }
     FieldAnswer::Refused(AtPacketError::TypeDecodeUnsupported)
 }
@@ -100,7 +124,9 @@ fn field_of(kind: u8, start: usize, field: &[u8]) -> FieldAnswer
     match kind {
         b'b' => byte_field(field),
         b'w' => word_field(field),
-        b'i' => type_field(field),
+        b'l' => long_field(field),
+        b'i' => ip_type_field(field),
+        b't' => bt_type_field(field),
         b'p' => protocol_field(field),
         b'r' => reason_field(field),
         _ => FieldAnswer::Got(Field {
@@ -129,7 +155,7 @@ fn no_field() -> Field
     Field { value: 0, len: 0 }
 }
 
-fn refused(e: AtPacketError) -> Taken
+pub(crate) fn refused(e: AtPacketError) -> Taken
     ensures { λ r. ⌜ r .stop ≡ Stop.Refused e ⌝ }
 {
     let fields = [no_field(); 7];

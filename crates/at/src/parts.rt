@@ -5,10 +5,10 @@ ghost use mathlib.Core.List.{[], _∷_};
 ghost use lib.ListN.{length, getD};
 ghost use Rattle.at.specs.Event.{num};
 ghost use Rattle.at.specs.Parts.{valueOf, valuesOf, partsOf};
-ghost use Rattle.at.specs.Steps.{threeParts};
+ghost use Rattle.at.specs.Steps.{threeParts, fiveParts};
 
 pub enum Value {
-    Number(u16),
+    Number(u32),
     Place(Text),
 }
 
@@ -50,9 +50,9 @@ pub fn value_at(p: Parts, i: usize) -> Value
     }
 }
 
-// At most three values, of which the last ones may be left unused.
-fn up_to_three(row: usize, count: usize, a: Value, b: Value, c: Value) -> Parts
-    ensures { λ r. ⌜ r ≡ threeParts row count a b c ⌝ }
+// At most five values, of which the last ones may be left unused.
+fn up_to_five(row: usize, count: usize, a: Value, b: Value, c: Value, d: Value, e: Value) -> Parts
+    ensures { λ r. ⌜ r ≡ fiveParts row count a b c d e ⌝ }
 {
     Parts {
         row,
@@ -60,11 +60,29 @@ fn up_to_three(row: usize, count: usize, a: Value, b: Value, c: Value) -> Parts
         a,
         b,
         c,
-        d: Value::Number(0),
-        e: Value::Number(0),
+        d,
+        e,
         f: Value::Number(0),
         g: Value::Number(0),
     }
+}
+
+fn up_to_three(row: usize, count: usize, a: Value, b: Value, c: Value) -> Parts
+    ensures { λ r. ⌜ r ≡ threeParts row count a b c ⌝ }
+{
+    up_to_five(row, count, a, b, c, Value::Number(0), Value::Number(0))
+}
+
+pub(crate) fn byte(n: u8) -> Value
+    ensures { λ r. ⌜ r ≡ Value.Number n ⌝ }
+{
+    Value::Number(n as u32)
+}
+
+pub(crate) fn word(n: u16) -> Value
+    ensures { λ r. ⌜ r ≡ Value.Number n ⌝ }
+{
+    Value::Number(n as u32)
 }
 
 pub(crate) fn bare(row: usize) -> Parts
@@ -89,4 +107,16 @@ pub(crate) fn three(row: usize, a: Value, b: Value, c: Value) -> Parts
     ensures { λ r. ⌜ r ≡ partsOf row (valueOf a ∷ valueOf b ∷ valueOf c ∷ []) ⌝ }
 {
     up_to_three(row, 3, a, b, c)
+}
+
+pub(crate) fn four(row: usize, a: Value, b: Value, c: Value, d: Value) -> Parts
+    ensures { λ r. ⌜ r ≡ partsOf row (valueOf a ∷ valueOf b ∷ valueOf c ∷ valueOf d ∷ []) ⌝ }
+{
+    up_to_five(row, 4, a, b, c, d, Value::Number(0))
+}
+
+pub(crate) fn five(row: usize, a: Value, b: Value, c: Value, d: Value, e: Value) -> Parts
+    ensures { λ r. ⌜ r ≡ partsOf row (valueOf a ∷ valueOf b ∷ valueOf c ∷ valueOf d ∷ valueOf e ∷ []) ⌝ }
+{
+    up_to_five(row, 5, a, b, c, d, e)
 }

@@ -7,7 +7,6 @@ ghost use Prim.Native.Nat.{_<_, _≤_, _+_};
 ghost use lib.ListN.{length, take};
 ghost use Rattle.text.specs.Bytes.{same as sameBytes, part as partOf};
 ghost use Rattle.at.specs.Event.{Row};
-ghost use Rattle.at.specs.Line.{search};
 ghost use Rattle.at.specs.Table.{nameAt, lettersAt};
 ghost use Rattle.at.specs.Parts.{rowNo};
 ghost use Rattle.at.specs.TableSteps.{Tabled};
@@ -75,7 +74,7 @@ pub(crate) enum Named {
 
 pub(crate) fn row_of(table: &[u8], name: &[u8]) -> Named
     requires { ⌜ SomeTable (now table) ⌝ }
-    ensures { λ r. ⌜ ((rows : List Row) → Tabled rows (now (table .entry)) → Finds rows (search rows (now (name .entry))) r) ⌝ }
+    ensures { λ r. ⌜ ((rows : List Row) → Tabled rows (now (table .entry)) → Finds rows (now (name .entry)) r) ⌝ }
 {
     let mut at = 0;
     let mut row = 0;

@@ -1,35 +1,33 @@
 // W26 AT events.
 use crate::AtPacketError;
+use crate::ConnHandle;
 use crate::PeerHandle;
 use crate::Text;
-use crate::field::Field;
 use crate::field::Stop;
 use crate::field::Taken;
+use crate::field::refused;
 use crate::field::take_fields;
 use crate::line::Framed;
 use crate::line::frame_line;
 use crate::line::head_of;
-use crate::parts::Parts;
-use crate::parts::Value::Number;
-use crate::parts::Value::Place;
-use crate::parts::bare;
-use crate::parts::one;
-use crate::parts::three;
-use crate::parts::two;
 use crate::table::Named;
 use crate::table::kinds_of;
 use crate::table::row_of;
+use crate::w26_event::event_of;
 use text::bytes::part;
+use text::field::Fields;
+use text::put::put;
 ghost use mathlib.Core.Path.{_≡_};
 ghost use Prim.Native.Nat.{_<_};
-ghost use lib.ListN.{length, drop};
-ghost use Rattle.at.specs.Refusal.{good};
-ghost use Rattle.at.specs.Event.{kindsOf, event, upTo};
-ghost use Rattle.at.specs.Line.{readLine, readText};
-ghost use Rattle.at.specs.W26.{table, UUDPC, w26, eventOf, profileNo, reasonNo, typeNo, shown};
+ghost use mathlib.Core.List.{[], _∷_};
+ghost use lib.ListN.{take, drop};
+ghost use Rattle.text.specs.FieldSteps.{left};
+ghost use Rattle.at.specs.Event.{upTo};
+ghost use Rattle.at.specs.Line.{byType, readLine, readText};
+ghost use Rattle.at.specs.W26.{table, UUDPC as row-ip, UUDPC-BT as row-bt, w26, shown};
 ghost use Rattle.at.specs.Table.{spelled};
-ghost use Rattle.at.specs.Parts.{Apart};
-ghost use Rattle.at.specs.Steps.{profileOf, reasonOf, valuesOf, eventBy};
+ghost use Rattle.at.specs.TableSteps.{Tabled};
+ghost use Rattle.at.specs.Steps.{isUnsupported, readPeer, Settles};
 
 pub enum WifiLinkDisconnectedReason {
     Unknown,
@@ -93,6 +91,63 @@ pub enum ATEvent {
         interface_id: u16,
         code: u16,
     },
+    DataAvailable {
+        peer: PeerHandle,
+        length: u16,
+    },
+    PeerConnectedBluetooth {
+        peer_handle: PeerHandle,
+        profile: u8,
+        address: Text,
+        frame_size: u16,
+    },
+    BondEvent {
+        bd_addr: Text,
+        status: u8,
+    },
+    UserConfirmation {
+        bd_addr: Text,
+        value: u32,
+    },
+    UserPasskeyDisplay {
+        bd_addr: Text,
+        passkey: u32,
+    },
+    UserPasskeyEntry {
+        bd_addr: Text,
+    },
+    ACLConnected {
+        conn_handle: ConnHandle,
+        type_: u8,
+        bd_addr: Text,
+    },
+    ACLDisconnected {
+        conn_handle: ConnHandle,
+    },
+    GATTRequestToRead {
+        conn_handle: ConnHandle,
+        char_handle: u16,
+    },
+    GATTRequestToWrite {
+        conn_handle: ConnHandle,
+        char_handle: u16,
+        value: Text,
+        options: u8,
+    },
+    GATTIndicationConfirmation {
+        conn_handle: ConnHandle,
+        char_handle: u16,
+    },
+    GATTNotification {
+        conn_handle: ConnHandle,
+        value_handle: u16,
+        hex_data: Text,
+    },
+    GATTIndication {
+        conn_handle: ConnHandle,
+        value_handle: u16,
+        hex_data: Text,
+    },
 }
 
 // `past` is the place just past the event.
@@ -101,59 +156,65 @@ pub enum EventAnswer {
     Refused(AtPacketError),
 }
 
-fn profile_of(n: usize) -> PeerConnectedProfile
-    ensures { λ r. ⌜ r ≡ profileOf n ⌝ }
-{
-    match n {
-        1 => PeerConnectedProfile::TCP,
-        2 => PeerConnectedProfile::UDP,
-        _ => PeerConnectedProfile::MQTT,
-    }
-}
-
-fn reason_of(n: usize) -> WifiLinkDisconnectedReason
-    ensures { λ r. ⌜ r ≡ reasonOf n ⌝ }
-{
-    match n {
-        0 => WifiLinkDisconnectedReason::Unknown,
-        1 => WifiLinkDisconnectedReason::RemoteClose,
-        2 => WifiLinkDisconnectedReason::OutOfRange,
-        3 => WifiLinkDisconnectedReason::Roaming,
-        4 => WifiLinkDisconnectedReason::SecurityProblems,
-        _ => WifiLinkDisconnectedReason::NetworkDisabled,
-    }
-}
-
 // The rows of the table, in its order.
-const UUDPC: usize = 0;
+pub(crate) const UUDPC: usize = 0;
 
-const UUDPD: usize = 1;
+pub(crate) const UUDPD: usize = 1;
 
-const UUWLE: usize = 2;
+pub(crate) const UUWLE: usize = 2;
 
-const UUWLD: usize = 3;
+pub(crate) const UUWLD: usize = 3;
 
-const UUWAPU: usize = 4;
+pub(crate) const UUWAPU: usize = 4;
 
-const UUWAPD: usize = 5;
+pub(crate) const UUWAPD: usize = 5;
 
-const UUWAPSTAC: usize = 6;
+pub(crate) const UUWAPSTAC: usize = 6;
 
-const UUWAPSTAD: usize = 7;
+pub(crate) const UUWAPSTAD: usize = 7;
 
-const UUETHLU: usize = 8;
+pub(crate) const UUETHLU: usize = 8;
 
-const UUETHLD: usize = 9;
+pub(crate) const UUETHLD: usize = 9;
 
-const UUNU: usize = 10;
+pub(crate) const UUNU: usize = 10;
 
-const UUND: usize = 11;
+pub(crate) const UUND: usize = 11;
 
-const UUNERR: usize = 12;
+pub(crate) const UUNERR: usize = 12;
 
-// The same rows in bytes (table.rt).
-pub fn rows() -> [u8; 260]
-    ensures { λ r. ⌜ r ≡ spelled table ⌝ }
+pub(crate) const UUDATA: usize = 13;
+
+pub(crate) const UUBTB: usize = 14;
+
+pub(crate) const UUBTUC: usize = 15;
+
+pub(crate) const UUBTUPD: usize = 16;
+
+pub(crate) const UUBTUPE: usize = 17;
+
+pub(crate) const UUBTACLC: usize = 18;
+
+pub(crate) const UUBTACLD: usize = 19;
+
+pub(crate) const UUBTGRR: usize = 20;
+
+pub(crate) const UUBTGRW: usize = 21;
+
+pub(crate) const UUBTGIC: usize = 22;
+
+pub(crate) const UUBTGN: usize = 23;
+
+pub(crate) const UUBTGI: usize = 24;
+
+pub(crate) const UUDPC_BT: usize = 25;
+
+// The number of the first row of the second half.
+const OTHERS: usize = 13;
+
+// The same rows in bytes (table.rt), in two halves: a name is looked for in the first, and the second is made only where it is not there.
+fn first_rows() -> [u8; 260]
+    ensures { λ r. ⌜ r ≡ spelled (take 13 table) ⌝ }
 {
     *b"\x06\x07+UUDPC     wipswsw\
         \x06\x01+UUDPD     w      \
@@ -170,170 +231,104 @@ pub fn rows() -> [u8; 260]
         \x07\x02+UUNERR    ww     "
 }
 
-fn peer_connected(fields: [Field; 7]) -> ATEvent
-    ensures { λ r. ⌜ eventOf r ≡ event UUDPC (valuesOf (kindsOf UUDPC) 0 fields) ⌝ }
+fn other_rows() -> [u8; 260]
+    ensures { λ r. ⌜ r ≡ spelled (drop 13 table) ⌝ }
 {
-    let handle = fields[0];
-    let address = fields[1];
-    let protocol = fields[2];
-    let local = fields[3];
-    let local_port = fields[4];
-    let remote = fields[5];
-    let remote_port = fields[6];
-    ATEvent::PeerConnectedIP {
-        peer_handle: PeerHandle((handle.value % 65536) as u16),
-        is_ipv6: address.value == 3,
-        protocol: profile_of(protocol.value),
-        local_address: Text {
-            start: local.value,
-            len: local.len,
+    *b"\x07\x02+UUDATA    ww     \
+        \x06\x02+UUBTB     sb     \
+        \x07\x02+UUBTUC    sl     \
+        \x08\x02+UUBTUPD   sl     \
+        \x08\x01+UUBTUPE   s      \
+        \x09\x03+UUBTACLC  wbs    \
+        \x09\x01+UUBTACLD  w      \
+        \x08\x02+UUBTGRR   ww     \
+        \x08\x04+UUBTGRW   wwsb   \
+        \x08\x02+UUBTGIC   ww     \
+        \x07\x03+UUBTGN    wws    \
+        \x07\x03+UUBTGI    wws    \
+        \x06\x05+UUDPC     wtbsw  "
+}
+
+pub fn rows() -> [u8; 520]
+    ensures { λ r. ⌜ r ≡ spelled table ⌝ }
+{
+    let first = first_rows();
+    let others = other_rows();
+    let mut all = [0u8; 520];
+    put(&mut all, 0, &first);
+    put(&mut all, 260, &others);
+    all
+}
+
+fn is_unsupported(stop: Stop) -> bool
+    ensures { λ r. ⌜ r ≡ isUnsupported stop ⌝ }
+{
+    match stop {
+        Stop::Nowhere => false,
+        Stop::Refused(e) => match e {
+            AtPacketError::Utf8DecodeFailed => false,
+            AtPacketError::FramingDecodeFailed => false,
+            AtPacketError::TypeDecodeUnsupported => true,
+            AtPacketError::TypeDecodeParameterMissing => false,
+            AtPacketError::TypeDecodeParameterDataTypeInvalid => false,
+            AtPacketError::EventUnknown => false,
         },
-        local_port: (local_port.value % 65536) as u16,
-        remote_address: Text {
-            start: remote.value,
-            len: remote.len,
-        },
-        remote_port: (remote_port.value % 65536) as u16,
     }
 }
 
-// The event of a row, from the fields that were taken for it. No row comes to the last arm.
-fn event_of(t: Taken) -> ATEvent
-    ensures { λ r. ⌜ (t .row < length table → good (eventOf r) ≡ eventBy table t) ⌝ }
+// The fields of `+UUDPC`, which has two rows: a type that the first has not is left to the second.
+fn peer_fields(first: &[u8], s: &[u8], w: Fields) -> Taken
+    requires { ⌜ Tabled (take 13 table) (now first) ⌝ }
+    ensures { λ r. ⌜ Settles table (byType (row-ip ∷ row-bt ∷ []) (left (now (s .entry)) w)) r ⌝ }
 {
-    let row = t.row;
-    let fields = t.fields;
-    let first = fields[0];
-    let second = fields[1];
-    let third = fields[2];
-    let id = (first.value % 65536) as u16;
-    let code = (second.value % 65536) as u16;
-    let channel = (third.value % 65536) as u16;
-    let address = Text {
-        start: second.value,
-        len: second.len,
+    let at = w.at;
+    let taken = take_fields(UUDPC, kinds_of(first, UUDPC), s, Fields { at });
+    let stop = taken.stop;
+    if is_unsupported(stop) {
+        let others = other_rows();
+        return take_fields(
+            UUDPC_BT,
+            kinds_of(&others, UUDPC_BT - OTHERS),
+            s,
+            Fields { at },
+        );
+    }
+    taken
+}
+
+// The fields of one of the first rows.
+fn fields_of(first: &[u8], row: usize, s: &[u8], w: Fields) -> Taken
+    requires { ⌜ Tabled (take 13 table) (now first) ⌝ }
+    ensures { λ r. ⌜ (row < 13 → Settles table (readPeer row (left (now (s .entry)) w)) r) ⌝ }
+{
+    if row == UUDPC {
+        peer_fields(first, s, w)
+    } else {
+        take_fields(row, kinds_of(first, row), s, w)
+    }
+}
+
+// The fields of the text from `start` to the end of `s`, by the rows of its name.
+fn taken_in(s: &[u8], start: usize) -> Taken
+    ensures { λ r. ⌜ Settles table (readText table start (drop start (now (s .entry)))) r ⌝ }
+{
+    let h = head_of(s, start);
+    let first = first_rows();
+    if let Named::Row(row) = row_of(&first, part(s, start, h.len)) {
+        return fields_of(&first, row, s, h.fields);
+    }
+    let others = other_rows();
+    let Named::Row(row) = row_of(&others, part(s, start, h.len)) else {
+        return refused(AtPacketError::EventUnknown);
     };
-    match row {
-        UUDPC => peer_connected(fields),
-        UUDPD => ATEvent::PeerDisconnected {
-            peer_handle: PeerHandle(id),
-        },
-        UUWLE => ATEvent::WifiLinkConnected {
-            conn_id: id,
-            bssid: address,
-            channel,
-        },
-        UUWLD => ATEvent::WifiLinkDisconnected {
-            conn_id: id,
-            reason: reason_of(second.value),
-        },
-        UUWAPU => ATEvent::WifiAccessPointUp { id },
-        UUWAPD => ATEvent::WifiAccessPointDown { id },
-        UUWAPSTAC => ATEvent::WifiAccessPointStationConnected {
-            id,
-            mac_addr: address,
-        },
-        UUWAPSTAD => ATEvent::WifiAccessPointStationDisconnected { id },
-        UUETHLU => ATEvent::EthernetLinkUp,
-        UUETHLD => ATEvent::EthernetLinkDown,
-        UUNU => ATEvent::NetworkUp { interface_id: id },
-        UUND => ATEvent::NetworkDown { interface_id: id },
-        UUNERR => ATEvent::NetworkError {
-            interface_id: id,
-            code,
-        },
-        _ => ATEvent::EthernetLinkUp,
-    }
-}
-
-fn type_number(is_ipv6: bool) -> u16
-    ensures { λ r. ⌜ r ≡ typeNo «is_ipv6» ⌝ }
-{
-    if is_ipv6 { 3 } else { 2 }
-}
-
-fn protocol_number(p: PeerConnectedProfile) -> u16
-    ensures { λ r. ⌜ r ≡ profileNo p ⌝ }
-{
-    match p {
-        PeerConnectedProfile::TCP => 1,
-        PeerConnectedProfile::UDP => 2,
-        PeerConnectedProfile::MQTT => 6,
-    }
-}
-
-fn reason_number(r: WifiLinkDisconnectedReason) -> u16
-    ensures { λ n. ⌜ n ≡ reasonNo r ⌝ }
-{
-    match r {
-        WifiLinkDisconnectedReason::Unknown => 0,
-        WifiLinkDisconnectedReason::RemoteClose => 1,
-        WifiLinkDisconnectedReason::OutOfRange => 2,
-        WifiLinkDisconnectedReason::Roaming => 3,
-        WifiLinkDisconnectedReason::SecurityProblems => 4,
-        WifiLinkDisconnectedReason::NetworkDisabled => 5,
-    }
-}
-
-// The row of an event and its values: `event_of` the other way.
-pub fn parts(e: ATEvent) -> Parts
-    ensures { λ r. ⌜ Apart table (eventOf e) r ⌝ }
-{
-    match e {
-        ATEvent::PeerConnectedIP {
-            peer_handle,
-            is_ipv6,
-            protocol,
-            local_address,
-            local_port,
-            remote_address,
-            remote_port,
-        } => Parts {
-            row: UUDPC,
-            count: 7,
-            a: Number(peer_handle.0),
-            b: Number(type_number(is_ipv6)),
-            c: Number(protocol_number(protocol)),
-            d: Place(local_address),
-            e: Number(local_port),
-            f: Place(remote_address),
-            g: Number(remote_port),
-        },
-        ATEvent::PeerDisconnected { peer_handle } => one(UUDPD, Number(peer_handle.0)),
-        ATEvent::WifiLinkConnected {
-            conn_id,
-            bssid,
-            channel,
-        } => three(UUWLE, Number(conn_id), Place(bssid), Number(channel)),
-        ATEvent::WifiLinkDisconnected { conn_id, reason } => {
-            two(UUWLD, Number(conn_id), Number(reason_number(reason)))
-        }
-        ATEvent::WifiAccessPointUp { id } => one(UUWAPU, Number(id)),
-        ATEvent::WifiAccessPointDown { id } => one(UUWAPD, Number(id)),
-        ATEvent::WifiAccessPointStationConnected { id, mac_addr } => {
-            two(UUWAPSTAC, Number(id), Place(mac_addr))
-        }
-        ATEvent::WifiAccessPointStationDisconnected { id } => one(UUWAPSTAD, Number(id)),
-        ATEvent::EthernetLinkUp => bare(UUETHLU),
-        ATEvent::EthernetLinkDown => bare(UUETHLD),
-        ATEvent::NetworkUp { interface_id } => one(UUNU, Number(interface_id)),
-        ATEvent::NetworkDown { interface_id } => one(UUND, Number(interface_id)),
-        ATEvent::NetworkError { interface_id, code } => {
-            two(UUNERR, Number(interface_id), Number(code))
-        }
-    }
+    take_fields(OTHERS + row, kinds_of(&others, row), s, h.fields)
 }
 
 // The event of the text from `start` to the end of `s`; `past` is the place just past it.
 fn event_in(s: &[u8], start: usize, past: usize) -> EventAnswer
     ensures { λ r. ⌜ shown r ≡ upTo past (readText table start (drop start (now (s .entry)))) ⌝ }
 {
-    let table = rows();
-    let h = head_of(s, start);
-    let Named::Row(row) = row_of(&table, part(s, start, h.len)) else {
-        return EventAnswer::Refused(AtPacketError::EventUnknown);
-    };
-    let taken = take_fields(row, kinds_of(&table, row), s, h.fields);
+    let taken = taken_in(s, start);
     let stop = taken.stop;
     match stop {
         Stop::Nowhere => EventAnswer::Event {

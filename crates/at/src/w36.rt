@@ -17,12 +17,14 @@ use crate::line::first_line_end;
 use crate::line::frame_line;
 use crate::line::head_of;
 use crate::parts::Parts;
-use crate::parts::Value::Number;
 use crate::parts::Value::Place;
 use crate::parts::bare;
+use crate::parts::byte;
+use crate::parts::four;
 use crate::parts::one;
 use crate::parts::three;
 use crate::parts::two;
+use crate::parts::word;
 use crate::table::Named;
 use crate::table::kinds_of;
 use crate::table::row_of;
@@ -204,31 +206,25 @@ fn event_of(t: Taken) -> ATEvent
     }
 }
 
-fn wide(n: u8) -> u16
-    ensures { λ r. ⌜ r ≡ n ⌝ }
-{
-    n as u16
-}
-
 // The row of an event and its values, of a binary event the data last.
 pub fn parts(e: ATEvent) -> Parts
     ensures { λ r. ⌜ Apart rows36 (eventOf e) r ⌝ }
 {
     match e {
-        ATEvent::SocketConnected { socket_id } => one(UESOC, Number(wide(socket_id.0))),
-        ATEvent::SocketClosed { socket_id } => one(UESOCL, Number(wide(socket_id.0))),
+        ATEvent::SocketConnected { socket_id } => one(UESOC, byte(socket_id.0)),
+        ATEvent::SocketClosed { socket_id } => one(UESOCL, byte(socket_id.0)),
         ATEvent::SocketDataAvailable { socket_id, length } => {
-            two(UESODA, Number(wide(socket_id.0)), Number(length))
+            two(UESODA, byte(socket_id.0), word(length))
         }
         ATEvent::WifiLinkUp {
             wlan_handle,
             bssid,
             channel,
-        } => three(UEWLU, Number(wlan_handle), Place(bssid), Number(channel)),
+        } => three(UEWLU, word(wlan_handle), Place(bssid), word(channel)),
         ATEvent::WifiLinkDown {
             wlan_handle,
             reason,
-        } => two(UEWLD, Number(wlan_handle), Number(reason)),
+        } => two(UEWLD, word(wlan_handle), word(reason)),
         ATEvent::WifiAccessPointStationAssociated { mac_addr } => one(UEWAPSA, Place(mac_addr)),
         ATEvent::WifiAccessPointStationDisassociated { mac_addr } => one(UEWAPSDA, Place(mac_addr)),
         ATEvent::WifiAccessPointUp => bare(UEWAPU),
@@ -238,24 +234,20 @@ pub fn parts(e: ATEvent) -> Parts
         ATEvent::AccessPointNetworkUp => bare(UEWAPNU),
         ATEvent::AccessPointNetworkDown => bare(UEWAPND),
         ATEvent::SocketDataBinary { socket_id, data } => {
-            two(UESODB, Number(wide(socket_id.0)), Place(data))
+            two(UESODB, byte(socket_id.0), Place(data))
         }
         ATEvent::SocketDataBinaryFrom {
             socket_id,
             remote_ip,
             remote_port,
             data,
-        } => Parts {
-            row: UESODBF,
-            count: 4,
-            a: Number(wide(socket_id.0)),
-            b: Place(remote_ip),
-            c: Number(remote_port),
-            d: Place(data),
-            e: Number(0),
-            f: Number(0),
-            g: Number(0),
-        },
+        } => four(
+            UESODBF,
+            byte(socket_id.0),
+            Place(remote_ip),
+            word(remote_port),
+            Place(data),
+        ),
     }
 }
 

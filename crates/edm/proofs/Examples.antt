@@ -1,5 +1,5 @@
 -- The examples that document 01 marks to be proved, as one table, and the theorem that all of them hold, by computation. That of `+UUNERR` is as
--- request 2 of document 02 has it, with the bare name beside it.
+-- request 2 of document 02 has it, with the bare name beside it. Those of Bluetooth are of request 3.
 use Prim.Native.Nat.{ℕ}
 use mathlib.Core.Path.{_≡_, refl}
 use mathlib.Core.List.{List, [], _∷_, _++_}
@@ -10,15 +10,15 @@ use Rattle.text.specs.Field.{fieldsFrom}
 use Rattle.text.specs.Number.{digitsFrom, under, digits, signed, number}
 use Rattle.text.specs.Utf8.{table as table37, seqLen, passed, validUpTo, utf8, insideCharacter}
 use Rattle.at.specs.Event.{num, place, event, ReadEvent, eventTo, readField, takeKind, takeKinds, readRow}
-use Rattle.at.specs.Line.{before, endsIn, ended, framed, search, fieldsAfter, readText, readLine}
+use Rattle.at.specs.Line.{before, endsIn, ended, framed, rowsNamed, fieldsAfter, byType, readText, readLine}
 use Rattle.at.specs.Binary.{Tried, tried, fieldsUpTo, readFields, findMarker, readData, readBody, tryRows}
 use Rattle.at.specs.Refusal.{OrRefused, good, refused}
 use Rattle.at.specs.Written.{answerTo, after}
 use Rattle.at.specs.Response.{Response, ok, readRest, readResponse, readBody as readResponseBody}
 use Rattle.at.specs.W26 as w26
-use Rattle.at.specs.W26.{UUDPD, UUETHLU, UUNERR}
+use Rattle.at.specs.W26.{UUDPC-BT, UUDPD, UUETHLU, UUNERR, UUBTUC, UUBTACLC, UUBTGRW}
 use Rattle.at.specs.W36 as w36
-use Rattle.at.specs.W36.{UEWSNU, UESODB, binaryTable}
+use Rattle.at.specs.W36.{UESOC, UEWSNU, UESODB, binaryTable}
 use Rattle.edm.specs.Packet.{Packet, startPacket, dataPacket, identifiers, carried}
 use Rattle.edm.specs.Payload.{readDataEvent}
 use Rattle.edm.specs.Frame.{readFrame}
@@ -63,11 +63,18 @@ examples =
     ∷ aLine26 (bytes "\r\n+UUETHLU\r\n") (good (eventTo (event UUETHLU []) 12))
     ∷ aLine26 (bytes "\r\n+UUNERR:0,1\r\n") (good (eventTo (event UUNERR (num 0 ∷ num 1 ∷ [])) 15))
     ∷ aLine26 (bytes "\r\nUUNERR:0,1\r\n") (refused 16)
+    ∷ aLine26 (bytes "\r\n+UUDPC:3,1,0,112233445566p,670\r\n") (good (eventTo (event UUDPC-BT (num 3 ∷ num 1 ∷ num 0 ∷ place 15 13 ∷ num 670 ∷ [])) 34))
+    ∷ aLine26 (bytes "\r\n+UUDPC:3,01,0,a,1\r\n") (refused 13)
+    ∷ aLine26 (bytes "\r\n+UUBTACLC:0,1,CCF9578E0D8Ap\r\n") (good (eventTo (event UUBTACLC (num 0 ∷ num 1 ∷ place 16 13 ∷ [])) 31))
+    ∷ aLine26 (bytes "\r\n+UUBTACLC:0,1\r\n") (refused 14)
+    ∷ aLine26 (bytes "\r\n+UUBTUC:112233445566p,4294967295\r\n") (good (eventTo (event UUBTUC (place 10 13 ∷ num 4294967295 ∷ [])) 36))
+    ∷ aLine26 (bytes "\r\n+UUBTUC:112233445566p,4294967296\r\n") (refused 15)
+    ∷ aLine26 (bytes "\r\n+UUBTGRW:0,35,,0\r\n") (good (eventTo (event UUBTGRW (num 0 ∷ num 35 ∷ place 16 0 ∷ num 0 ∷ [])) 20))
     ∷ aLine36 (bytes "\r\n+UEWSNU\r\n\r\n+UESOC:1\r\n") (good (eventTo (event UEWSNU []) 11))
     ∷ aBinary (bytes "\r\n+UESODB:2" ++ hex "01 00 01 FF") (tried (good (eventTo (event UESODB (num 2 ∷ place 14 1 ∷ [])) 15)))
     ∷ aResponse (bytes "\r\n+A\r\nOK\r\n") (good (ok 2 2))
     ∷ []
 
 pub all-hold : All examples
-unfolding same startsWith part firstOf lastBelow lastOf fieldsFrom digitsFrom under digits signed number table37 seqLen passed validUpTo utf8 insideCharacter readField takeKind takeKinds readRow before endsIn ended framed search fieldsAfter readText readLine fieldsUpTo readFields findMarker readData readBody tryRows readRest readResponse readResponseBody w26.table w36.table binaryTable identifiers carried readDataEvent readFrame frame toSend toWrite
-all-hold = (refl, (refl, (refl, (refl, (refl, (refl, ((refl, refl), ((refl, refl), ((refl, refl), (refl, (refl, (refl, (refl, (refl, (refl, (refl, tt))))))))))))))))
+unfolding same startsWith part firstOf lastBelow lastOf fieldsFrom digitsFrom under digits signed number table37 seqLen passed validUpTo utf8 insideCharacter readField takeKind takeKinds readRow before endsIn ended framed rowsNamed fieldsAfter byType readText readLine fieldsUpTo readFields findMarker readData readBody tryRows readRest readResponse readResponseBody w26.table w36.table binaryTable identifiers carried readDataEvent readFrame frame toSend toWrite
+all-hold = (refl, (refl, (refl, (refl, (refl, (refl, ((refl, refl), ((refl, refl), ((refl, refl), (refl, (refl, (refl, (refl, (refl, (refl, (refl, (refl, (refl, (refl, (refl, (refl, (refl, (refl, tt)))))))))))))))))))))))

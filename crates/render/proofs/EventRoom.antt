@@ -7,13 +7,13 @@ use native.Mathlib.Omega.{arith}
 use lib.Dec.{leb}
 use lib.ListN.{length, take, drop, length-append, length-take, length-drop}
 use borrow.Author.Tests.{leb-true}
-use Rattle.text.specs.Bytes.{bytes, same, startsWith}
+use Rattle.text.specs.Bytes.{bytes, startsWith}
 use Rattle.text.proofs.Bools.{and-left, and-right}
-use Rattle.text.proofs.BytesLaws.{same-equal}
 use Rattle.at.specs.Refusal.{OrRefused, good, refused}
 use Rattle.at.specs.Event.{Row, nameOf, kindsOf, Value, place, Event, event, eventTo, upTo, Read, values, withValues, takeKinds, readRow}
-use Rattle.at.specs.Line.{before, Radio, Body, body, framed, search, fieldsAfter, readNamed, readText, readFramed, readLine}
+use Rattle.at.specs.Line.{before, Radio, Body, body, framed, rowsNamed, fieldsAfter, readText, readFramed, readLine}
 use Rattle.at.specs.Binary.{fieldsUpTo, readFields, findMarker, announced, Data, dataAt, readData, withData, readMarked, readBody, tried, prefix, tryRows}
+use Rattle.at.proofs.RowsLaws.{Each, each-named, read-by-one}
 use Rattle.render.specs.Words.{valuesLine}
 use Rattle.render.proofs.WordLengths.{data-none, data-place}
 use Rattle.render.proofs.FieldWeights.{weight-up-to, weight-after, extras, values-within}
@@ -42,43 +42,34 @@ data-read p t a n e = go (leb 2 (length t)) refl (leb (announced t) (length t - 
     go true k false l e = let z : _≡_ {A = ℕ} 0 1 = cc in absurd (omega arith)
     go false k l m e = let z : _≡_ {A = ℕ} 0 1 = cc in absurd (omega arith)
 
-module _ (test : Row → Bool) (src : List ℕ) (r : Row) (vs : List Value) where
-  -- the row that is found by a name has it, and passes the test that every row passes
-  found-passes : (rows : List Row) (name : List ℕ) → rowsPass test rows ≡ true → search rows name ≡ good r → (test r ≡ true) × (name ≡ nameOf r)
-  unfolding rowsPass search
-  found-passes [] name t e = let z : _≡_ {A = ℕ} 0 1 = cc in absurd (omega arith)
-  found-passes (q ∷ rs) name t e = go (same name (nameOf q)) refl e (found-passes rs name (and-right (test q) (rowsPass test rs) t))
-    where
-      go : (k : Bool) → same name (nameOf q) ≡ k → cond k (good q) (search rs name) ≡ good r → (search rs name ≡ good r → (test r ≡ true) × (name ≡ nameOf r))
-          → (test r ≡ true) × (name ≡ nameOf r)
-      go true k e ih =
-          let f : q ≡ r = cc in
-          let both : (test q ≡ true) × (name ≡ nameOf q) = (and-left (test q) (rowsPass test rs) t, same-equal name (nameOf q) k) in
-          rw f at both
-      go false k e ih = ih e
+each-passes : (test : Row → Bool) (rows : List Row) → rowsPass test rows ≡ true → Each (λ r. test r ≡ true) rows
+unfolding rowsPass
+each-passes test [] t = tt
+each-passes test (r ∷ rs) t = (and-left (test r) (rowsPass test rs) t, each-passes test rs (and-right (test r) (rowsPass test rs) t))
 
-  -- a text that is read, where the event takes up 4 bytes more than the text
+module _ (test : Row → Bool) (src : List ℕ) (r : Row) (vs : List Value) where
+  -- a text that is read, where the event takes up 4 bytes more than the text: one of the rows of its name reads it, which passes the test that every
+  -- row passes
   text-short : (rows : List Row) (x : ℕ) (t : List ℕ) (p q : ℕ) → rowsPass test rows ≡ true → readText rows x t ≡ good (event r vs) → p + 4 + length t ≤ q
       → (test r ≡ true) × Short src p r vs q
   unfolding readText readRow
-  text-short rows x t p q a e h = go (search rows (before (bytes ":") t)) refl e
+  text-short rows x t p q a e h =
+      let name = before (bytes ":") t in
+      let b = read-by-one (λ b. (test b ≡ true) × (name ≡ nameOf b)) (fieldsAfter x t) (event r vs) (rowsNamed rows name) (each-named (λ b. test b ≡ true) rows name (each-passes test rows a)) e in
+      read (b .0) (b .1) (takeKinds (kindsOf (b .0)) (fieldsAfter x t)) refl (b .2)
     where
-      read : (b : Row) → search rows (before (bytes ":") t) ≡ good b → (o : OrRefused Read) → takeKinds (kindsOf b) (fieldsAfter x t) ≡ o → withValues b o ≡ good (event r vs)
+      read : (b : Row) → (test b ≡ true) × (before (bytes ":") t ≡ nameOf b) → (o : OrRefused Read) → takeKinds (kindsOf b) (fieldsAfter x t) ≡ o → withValues b o ≡ good (event r vs)
           → (test r ≡ true) × Short src p r vs q
       read b k (good (values us l)) o e =
           let f : b ≡ r = cc in
           let g : us ≡ vs = cc in
-          let n = found-passes rows (before (bytes ":") t) a (rw f at k) in
+          let n : (test r ≡ true) × (before (bytes ":") t ≡ nameOf r) = rw f at k in
           let v : takeKinds (kindsOf r) (fieldsAfter x t) ≡ good (values vs l) = rw (f, g) at o in
           let w = rw (append-nil vs) at (values-within (kindsOf r) (fieldsAfter x t) src vs [] l v) in
           let u : length (before (bytes ":") t) ≡ length (nameOf r) = ap length (n .1) in
           let m = weight-after x t in
           (n .0, record { named = omega arith; short = omega (arith, w, data-none src) })
       read b k (refused n) o e = let z : _≡_ {A = ℕ} 0 1 = cc in absurd (omega arith)
-
-      go : (k : OrRefused Row) → search rows (before (bytes ":") t) ≡ k → readNamed k (fieldsAfter x t) ≡ good (event r vs) → (test r ≡ true) × Short src p r vs q
-      go (good b) k e = read b k (takeKinds (kindsOf b) (fieldsAfter x t)) refl e
-      go (refused n) k e = let z : _≡_ {A = ℕ} 0 1 = cc in absurd (omega arith)
 
   -- a line
   pub line-short : (radio : Radio) → rowsPass test (radio .rows) ≡ true → Spans radio → (p : ℕ) (line : List ℕ) (q : ℕ) → readLine radio p line ≡ good (eventTo (event r vs) q)

@@ -14,8 +14,8 @@ use Rattle.at.specs.Refusal.{OrRefused, good, refused}
 use Rattle.at.specs.Event.{Kind, Value, readField, andRest, takeKind, Read, values, prepend, andThen, takeKinds}
 use Rattle.at.specs.Line.{before, fieldsAfter}
 use Rattle.at.specs.Binary.{fieldsUpTo}
-use Rattle.render.specs.Words.{wordOf, valuesLine}
-use Rattle.render.proofs.WordLengths.{extra, word-within}
+use Rattle.render.specs.Words.{spacedWord, valuesLine}
+use Rattle.render.proofs.WordLengths.{extra, spaced-within}
 
 unfoldable pub weight : List Field → ℕ
 weight [] = 0
@@ -78,6 +78,6 @@ values-within (k ∷ ks) (field p b ∷ fs) src vs more rest e = go (readField k
     go (good v) o (good (values us l)) r e ih =
         let f : prepend v (good (values us l)) ≡ good (values vs rest) = rw r at e in
         let g : vs ≡ v ∷ us = cc in
-        rw g (unfold valuesLine in omega (arith, length-append (wordOf k src v) (valuesLine ks src (us ++ more)), word-within k p b src v o, ih us more l r))
+        rw g (unfold valuesLine in omega (arith, length-append (spacedWord k src v) (valuesLine ks src (us ++ more)), spaced-within k p b src v o, ih us more l r))
     go (good v) o (refused n) r e ih = let f : prepend v (refused n) ≡ good (values vs rest) = rw r at e in let z : _≡_ {A = ℕ} 0 1 = cc in absurd (omega arith)
     go (refused n) o r q e ih = let z : _≡_ {A = ℕ} 0 1 = cc in absurd (omega arith)

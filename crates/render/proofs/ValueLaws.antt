@@ -9,9 +9,8 @@ use borrow.Author.Tests.{leb-true, leb-false}
 use lib.Dec.{leb}
 use lib.ListN.{length, drop, getD, drop-of-length-le, List·getD-eq-default}
 use lib.Seq.{drop-cons}
-use Rattle.text.specs.Bytes.{bytes}
 use Rattle.at.specs.Event.{Kind, text, Value, num}
-use Rattle.render.specs.Words.{wordOf, valuesLine}
+use Rattle.render.specs.Words.{spacedWord, valuesLine}
 
 module _ (ks : List Kind) (src : List ℕ) (vs : List Value) where
   abbrev from : ℕ → List ℕ
@@ -21,12 +20,12 @@ module _ (ks : List Kind) (src : List ℕ) (vs : List Value) where
   unfolding valuesLine
   values-done i h = rw (drop-of-length-le vs {i = i} h)
 
-  pub values-next : (i : ℕ) → i < length vs → from i ≡ bytes " " ++ wordOf (getD ks i text) src (getD vs i (num 0)) ++ from (i + 1)
+  pub values-next : (i : ℕ) → i < length vs → from i ≡ spacedWord (getD ks i text) src (getD vs i (num 0)) ++ from (i + 1)
   unfolding valuesLine
   values-next i h = rw (add-one i, drop-cons vs i (num 0) h) (go (leb (length ks) i) refl)
     where
       go : (b : Bool) → leb (length ks) i ≡ b
-          → valuesLine (drop i ks) src (getD vs i (num 0) ∷ drop (suc i) vs) ≡ bytes " " ++ wordOf (getD ks i text) src (getD vs i (num 0)) ++ from (suc i)
+          → valuesLine (drop i ks) src (getD vs i (num 0) ∷ drop (suc i) vs) ≡ spacedWord (getD ks i text) src (getD vs i (num 0)) ++ from (suc i)
       go true t =
           let k : length ks ≤ i = leb-true (length ks) i t in
           let l : length ks ≤ suc i = omega arith in

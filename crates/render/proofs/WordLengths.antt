@@ -16,9 +16,9 @@ use Rattle.text.proofs.Bools.{and-left, and-right}
 use Rattle.text.proofs.DecimalLaws.{decimal-one, decimal-more}
 use Rattle.text.proofs.Spelling.{read-exactly}
 use Rattle.at.specs.Refusal.{good, refused}
-use Rattle.at.specs.Event.{Kind, bits, text, ipType, protocol, reason, Value, num, place, listed, isProtocol, isReason, readField}
+use Rattle.at.specs.Event.{Kind, bits, text, ipType, btType, protocol, reason, Value, num, place, listed, isProtocol, isReason, readField}
 use Rattle.render.specs.Refusal.{refusals, refusedLine, frameRefusedLine}
-use Rattle.render.specs.Words.{pairsOf, hexOf, Name, _is_, nameIn, isIPv6, protocols, reasons, numberWord, wordOf, valuesLine}
+use Rattle.render.specs.Words.{pairsOf, hexOf, Name, _is_, nameIn, isIPv6, protocols, reasons, numberWord, wordOf, spacedWord, valuesLine}
 
 -- a number below ten to the power k, for k of 1 or more, has at most k digits
 pub decimal-within : (k n : ℕ) → n < 10 ^ suc k → length (decimal n) ≤ suc k
@@ -84,6 +84,7 @@ unfoldable pub extra : Kind → ℕ
 extra (bits w) = 0
 extra text = 0
 extra ipType = 0
+extra btType = 0
 extra protocol = 3
 extra reason = 15
 
@@ -95,7 +96,7 @@ listed-number q (some n) v e = go (q n) e
     go false e = let z : _≡_ {A = ℕ} 0 1 = cc in absurd (omega arith)
 listed-number q none v e = let z : _≡_ {A = ℕ} 0 1 = cc in absurd (omega arith)
 
-pub word-within : (k : Kind) (p : ℕ) (b src : List ℕ) (v : Value) → readField k p b ≡ good v → length (wordOf k src v) ≤ 2 * length b + 1 + extra k
+word-within : (k : Kind) (p : ℕ) (b src : List ℕ) (v : Value) → readField k p b ≡ good v → length (wordOf k src v) ≤ 2 * length b + 1 + extra k
 unfolding readField numberWord extra namesWithin isIPv6 protocols reasons
 word-within (bits w) p b src v e =
     let r = listed-number (λ n. true) (number w b) v e in
@@ -107,12 +108,26 @@ word-within ipType p b src v e = go (same b (bytes "2")) (same b (bytes "3")) e
     go true t e = let f : v ≡ num 2 = cc in rw f (omega (arith, name-within 1 isIPv6 refl 2))
     go false true e = let f : v ≡ num 3 = cc in rw f (omega (arith, name-within 1 isIPv6 refl 3))
     go false false e = let z : _≡_ {A = ℕ} 0 1 = cc in absurd (omega arith)
+word-within btType p b src v e = go (same b (bytes "1")) refl e
+  where
+    go : (t : Bool) → same b (bytes "1") ≡ t → cond t (good (num 1)) (refused 13) ≡ good v → length (wordOf btType src v) ≤ 2 * length b + 1 + 0
+    go true t e = let f : v ≡ num 1 = cc in rw f (omega (arith, decimal-within 0 1 (omega arith)))
+    go false t e = let z : _≡_ {A = ℕ} 0 1 = cc in absurd (omega arith)
 word-within protocol p b src v e =
     let r = listed-number isProtocol (number 8 b) v e in
     rw (r .2) (omega (arith, name-within 4 protocols refl (r .0)))
 word-within reason p b src v e =
     let r = listed-number isReason (number 8 b) v e in
     rw (r .2) (omega (arith, name-within 16 reasons refl (r .0)))
+
+-- and with the space before it
+pub spaced-within : (k : Kind) (p : ℕ) (b src : List ℕ) (v : Value) → readField k p b ≡ good v → length (spacedWord k src v) ≤ 2 * suc (length b) + extra k
+spaced-within (bits w) p b src v e = omega (arith, word-within (bits w) p b src v e)
+spaced-within text p b src v e = omega (arith, word-within text p b src v e)
+spaced-within ipType p b src v e = omega (arith, word-within ipType p b src v e)
+spaced-within btType p b src v e = omega arith
+spaced-within protocol p b src v e = omega (arith, word-within protocol p b src v e)
+spaced-within reason p b src v e = omega (arith, word-within reason p b src v e)
 
 -- values that have no kind: none, a place first, a number first
 module _ (src : List ℕ) where

@@ -5,7 +5,8 @@ use mathlib.Core.List.{List, [], _∷_, _++_}
 use mathlib.Core.Bool.{cond}
 use Rattle.text.specs.Bytes.{bytes, same}
 use Rattle.at.specs.Refusal.{OrRefused, good, refused}
-use Rattle.at.specs.Event.{Row, nameOf, kindsOf, Event, event, ReadEvent, eventTo}
+use Rattle.at.specs.Event.{Row, kindsOf, Event, event, ReadEvent, eventTo}
+use Rattle.at.specs.Table.{spelledRow}
 use Rattle.at.specs.W26 as w26
 use Rattle.at.specs.W36 as w36
 use Rattle.render.specs.Words.{valuesLine}
@@ -31,6 +32,19 @@ cases26 =
     ∷ (w26.UUNU gives "NetworkUp")
     ∷ (w26.UUND gives "NetworkDown")
     ∷ (w26.UUNERR gives "NetworkError")
+    ∷ (w26.UUDATA gives "DataAvailable")
+    ∷ (w26.UUBTB gives "BondEvent")
+    ∷ (w26.UUBTUC gives "UserConfirmation")
+    ∷ (w26.UUBTUPD gives "UserPasskeyDisplay")
+    ∷ (w26.UUBTUPE gives "UserPasskeyEntry")
+    ∷ (w26.UUBTACLC gives "ACLConnected")
+    ∷ (w26.UUBTACLD gives "ACLDisconnected")
+    ∷ (w26.UUBTGRR gives "GATTRequestToRead")
+    ∷ (w26.UUBTGRW gives "GATTRequestToWrite")
+    ∷ (w26.UUBTGIC gives "GATTIndicationConfirmation")
+    ∷ (w26.UUBTGN gives "GATTNotification")
+    ∷ (w26.UUBTGI gives "GATTIndication")
+    ∷ (w26.UUDPC-BT gives "PeerConnectedBluetooth")
     ∷ []
 
 unfoldable pub cases36 : List Case
@@ -52,10 +66,10 @@ cases36 =
     ∷ (w36.UESODBF gives "SocketDataBinaryFrom")
     ∷ []
 
--- the case of a row, which is found by its name
+-- the case of a row, which is found by its name and its letters
 unfoldable pub caseOf : List Case → Row → String
 caseOf [] r = ""
-caseOf ((q gives name) ∷ cases) r = cond (same (nameOf q) (nameOf r)) name (caseOf cases r)
+caseOf ((q gives name) ∷ cases) r = cond (same (spelledRow q) (spelledRow r)) name (caseOf cases r)
 
 abbrev pub eventLine : List Case → List ℕ → Event → List ℕ
 eventLine cases src (event r vs) = bytes (caseOf cases r) ++ valuesLine (kindsOf r) src vs

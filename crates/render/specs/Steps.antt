@@ -8,7 +8,7 @@ use mathlib.Core.Bool.{cond}
 use lib.Dec.{eqb}
 use lib.ListN.{length}
 use Rattle.text.specs.Bytes.{bytes}
-use Rattle.at.specs.Event.{Kind, bits, text, ipType, protocol, reason, Row}
+use Rattle.at.specs.Event.{Kind, bits, text, ipType, btType, protocol, reason, Row}
 use Rattle.at.specs.TableSteps.{Tabled}
 use Rattle.render.specs.Words.{Name, _is_}
 use Rattle.render.specs.Event.{Case, caseOf}
@@ -32,7 +32,7 @@ pub record Cased (rows : List Row) (cases : List Case) (table names : List ℕ) 
 unfoldable pub kindOf : ℕ → Kind
 kindOf letter =
     cond (eqb letter (code "i")) ipType
-    (cond (eqb letter (code "p")) protocol (cond (eqb letter (code "r")) reason (cond (eqb letter (code "s")) text (bits 16))))
+    (cond (eqb letter (code "t")) btType (cond (eqb letter (code "p")) protocol (cond (eqb letter (code "r")) reason (cond (eqb letter (code "s")) text (bits 16)))))
 
 abbrev pub kindsIn : List ℕ → List Kind
 kindsIn letters = map kindOf letters

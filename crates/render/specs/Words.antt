@@ -8,7 +8,7 @@ use lib.Dec.{eqb}
 use lib.ListN.{getD}
 use Rattle.text.specs.Bytes.{bytes, part}
 use Rattle.text.specs.Decimal.{decimal}
-use Rattle.at.specs.Event.{Kind, bits, text, ipType, protocol, reason, Value, num, place}
+use Rattle.at.specs.Event.{Kind, bits, text, ipType, btType, protocol, reason, Value, num, place}
 
 -- a digit below 16
 abbrev pub digit : ℕ → ℕ
@@ -54,6 +54,7 @@ unfoldable pub numberWord : Kind → ℕ → List ℕ
 numberWord (bits w) n = decimal n
 numberWord text n = decimal n
 numberWord ipType n = nameIn isIPv6 n
+numberWord btType n = decimal n
 numberWord protocol n = nameIn protocols n
 numberWord reason n = nameIn reasons n
 
@@ -62,8 +63,17 @@ abbrev pub wordOf : Kind → List ℕ → Value → List ℕ
 wordOf k src (num n) = numberWord k n
 wordOf k src (place start len) = hexOf (part src start len)
 
+-- a value after a space. The type of a Bluetooth peer is no field of the Rust's enum: the name of its case says it
+abbrev pub spacedWord : Kind → List ℕ → Value → List ℕ
+spacedWord (bits w) src v = bytes " " ++ wordOf (bits w) src v
+spacedWord text src v = bytes " " ++ wordOf text src v
+spacedWord ipType src v = bytes " " ++ wordOf ipType src v
+spacedWord btType src v = []
+spacedWord protocol src v = bytes " " ++ wordOf protocol src v
+spacedWord reason src v = bytes " " ++ wordOf reason src v
+
 -- values of these kinds, each after a space; those after the kinds are data
 unfoldable pub valuesLine : List Kind → List ℕ → List Value → List ℕ
 valuesLine ks src [] = []
-valuesLine [] src (v ∷ vs) = bytes " " ++ wordOf text src v ++ valuesLine [] src vs
-valuesLine (k ∷ ks) src (v ∷ vs) = bytes " " ++ wordOf k src v ++ valuesLine ks src vs
+valuesLine [] src (v ∷ vs) = spacedWord text src v ++ valuesLine [] src vs
+valuesLine (k ∷ ks) src (v ∷ vs) = spacedWord k src v ++ valuesLine ks src vs

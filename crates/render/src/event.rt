@@ -15,12 +15,12 @@ ghost use lib.ListN.{getD};
 ghost use Rattle.at.specs.Event.{Row, Event, text};
 ghost use Rattle.at.specs.Parts.{valueOf, valuesOf, Apart};
 ghost use Rattle.render.specs.Print.{Prints};
-ghost use Rattle.render.specs.Words.{numberWord, wordOf, valuesLine};
+ghost use Rattle.render.specs.Words.{numberWord, wordOf, spacedWord, valuesLine};
 ghost use Rattle.render.specs.Event.{Case, eventLine};
 ghost use Rattle.render.specs.Steps.{Cased, kindOf, kindsIn};
 
 // A number by the letter of its kind.
-fn number_of(buf: &mut [u8], at: usize, kind: u8, n: u16) -> usize
+fn number_of(buf: &mut [u8], at: usize, kind: u8, n: u32) -> usize
     ensures { λ r. ⌜ Prints (now (buf .entry)) at (numberWord (kindOf kind) n) r (now (buf .exit)) ⌝ }
 {
     match kind {
@@ -50,6 +50,17 @@ fn value(buf: &mut [u8], at: usize, src: &[u8], kind: u8, v: Value) -> usize
     }
 }
 
+// A value after a space. The type of a Bluetooth peer is not printed, since the name of its case says it.
+fn spaced(buf: &mut [u8], at: usize, src: &[u8], kind: u8, v: Value) -> usize
+    ensures { λ r. ⌜ Prints (now (buf .entry)) at (spacedWord (kindOf kind) (now (src .entry)) (valueOf v)) r (now (buf .exit)) ⌝ }
+{
+    if kind == b't' {
+        return at;
+    }
+    let next = word(buf, at, b" ");
+    value(buf, next, src, kind, v)
+}
+
 // The letter of a field; data after the fields are like a text.
 fn letter_at(kinds: &[u8], i: usize) -> u8
     ensures { λ r. ⌜ kindOf r ≡ getD (kindsIn (now (kinds .entry))) i text ⌝ }
@@ -64,8 +75,7 @@ fn values(buf: &mut [u8], at: usize, src: &[u8], kinds: &[u8], p: Parts) -> usiz
     let mut to = at;
     let mut i = 0;
     while i < n {
-        let next = word(buf, to, b" ");
-        to = value(buf, next, src, letter_at(kinds, i), value_at(p, i));
+        to = spaced(buf, to, src, letter_at(kinds, i), value_at(p, i));
         i += 1;
     }
     to

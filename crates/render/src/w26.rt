@@ -3,8 +3,8 @@ use crate::event::parts_line;
 use crate::refusal::of_at;
 use at::w26::ATEvent;
 use at::w26::EventAnswer;
-use at::w26::parts;
 use at::w26::rows;
+use at::w26_parts::parts;
 ghost use Rattle.at.specs.W26.{eventOf, shown};
 ghost use Rattle.render.specs.Print.{Prints};
 ghost use Rattle.render.specs.Event.{cases26, eventLine, answerLine};
@@ -24,7 +24,20 @@ pub(crate) fn event(buf: &mut [u8], at: usize, src: &[u8], e: ATEvent) -> usize
         \x09\x10EthernetLinkDown\
         \x0a\x09NetworkUp\
         \x0b\x0bNetworkDown\
-        \x0c\x0cNetworkError";
+        \x0c\x0cNetworkError\
+        \x0d\x0dDataAvailable\
+        \x0e\x09BondEvent\
+        \x0f\x10UserConfirmation\
+        \x10\x12UserPasskeyDisplay\
+        \x11\x10UserPasskeyEntry\
+        \x12\x0cACLConnected\
+        \x13\x0fACLDisconnected\
+        \x14\x11GATTRequestToRead\
+        \x15\x12GATTRequestToWrite\
+        \x16\x1aGATTIndicationConfirmation\
+        \x17\x10GATTNotification\
+        \x18\x0eGATTIndication\
+        \x19\x16PeerConnectedBluetooth";
     let table = rows();
     parts_line(buf, at, src, &table, names, parts(e))
 }

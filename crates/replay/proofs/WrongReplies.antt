@@ -17,7 +17,7 @@ use Rattle.text.specs.Put.{placed}
 use Rattle.text.specs.Utf8.{table as table37, seqLen, passed, validUpTo, utf8, insideCharacter}
 use Rattle.text.proofs.OneOutcome.{One}
 use Rattle.at.specs.Event.{readField, takeKind, takeKinds, readRow}
-use Rattle.at.specs.Line.{before, endsIn, ended, framed, search, fieldsAfter, readText, readLine}
+use Rattle.at.specs.Line.{before, endsIn, ended, framed, rowsNamed, fieldsAfter, byType, readText, readLine}
 use Rattle.at.specs.Binary.{tryRows}
 use Rattle.at.specs.W36.{table, binaryTable}
 use Rattle.at.specs.Walk.{readEither, stepAt, walkFrom, walkAt}
@@ -41,7 +41,7 @@ abbrev pub bothSockets : List ℕ
 bothSockets = bytes "SocketConnected 1 @12 ; SocketConnected 2 @24 ; end\n"
 
 both-sockets : (n : ℕ) → answerLine false n twoConnects ≡ bothSockets
-unfolding lineReply replyLine withoutCr shortReply isNote every asked atSpace firstOf words kindOf bytesIn pairs same startsWith fieldsFrom digitsFrom under digits signed number table37 seqLen passed validUpTo utf8 insideCharacter readField takeKind takeKinds readRow before endsIn ended framed search fieldsAfter readText readLine tryRows readEither stepAt walkFrom walkAt table binaryTable walkLine valuesLine numberWord decimal digitsOf cases36 caseOf
+unfolding lineReply replyLine withoutCr shortReply isNote every asked atSpace firstOf words kindOf bytesIn pairs same startsWith fieldsFrom digitsFrom under digits signed number table37 seqLen passed validUpTo utf8 insideCharacter readField takeKind takeKinds readRow before endsIn ended framed rowsNamed fieldsAfter byType readText readLine tryRows readEither stepAt walkFrom walkAt table binaryTable walkLine valuesLine numberWord decimal digitsOf cases36 caseOf
 both-sockets n = refl
 
 -- both events are written, wherever the line is lent and the answer put

@@ -7,6 +7,8 @@ use Rattle.text.specs.declared.number.Number8.{Number8}
 use Rattle.text.specs.declared.number.Number8.the-variants as n8
 use Rattle.text.specs.declared.number.Number16.{Number16}
 use Rattle.text.specs.declared.number.Number16.the-variants as n16
+use Rattle.text.specs.declared.number.Number32.{Number32}
+use Rattle.text.specs.declared.number.Number32.the-variants as n32
 
 -- the number that a text spells, or none
 pub data Num : Type 0 where
@@ -49,3 +51,7 @@ shown8 n8.Refused = none
 abbrev pub shown16 : Number16 → Num
 shown16 (n16.Value n) = some n
 shown16 n16.Refused = none
+
+abbrev pub shown32 : Number32 → Num
+shown32 (n32.Value n) = some n
+shown32 n32.Refused = none

@@ -1,8 +1,8 @@
-// Decimal numbers of 8 and 16 bits, read from a text: an optional plus, then one or more digits.
+// Decimal numbers of 8, 16 and 32 bits, read from a text: an optional plus, then one or more digits.
 ghost use mathlib.Core.Path.{_≡_};
 ghost use Prim.Native.Nat.{_≤_, _<_};
 ghost use lib.ListN.{drop};
-ghost use Rattle.text.specs.Number.{digits, signed, number, shown8, shown16};
+ghost use Rattle.text.specs.Number.{digits, signed, number, shown8, shown16, shown32};
 ghost use Rattle.text.specs.NumberSteps.{spelt};
 
 pub enum Number8 {
@@ -15,21 +15,26 @@ pub enum Number16 {
     Refused,
 }
 
+pub enum Number32 {
+    Value(u32),
+    Refused,
+}
+
 // A number below a limit, before it is given its width.
 enum Spelt {
-    Value(u32),
+    Value(u64),
     Nothing,
 }
 
 // The digits from a place on, to the end.
-fn digits_from(s: &[u8], from: usize, limit: u32) -> Spelt
-    requires { ⌜ (0 < limit) × (limit ≤ 65536) ⌝ }
+fn digits_from(s: &[u8], from: usize, limit: u64) -> Spelt
+    requires { ⌜ (0 < limit) × (limit ≤ 4294967296) ⌝ }
     ensures { λ r. ⌜ spelt r ≡ digits limit (drop from (now (s .entry))) ⌝ }
 {
     if s.len() <= from {
         return Spelt::Nothing;
     }
-    let mut value: u32 = 0;
+    let mut value: u64 = 0;
     let mut i = from;
     while i < s.len() {
         let b = s[i];
@@ -39,7 +44,7 @@ fn digits_from(s: &[u8], from: usize, limit: u32) -> Spelt
         if b'9' < b {
             return Spelt::Nothing;
         }
-        value = value * 10 + (b - b'0') as u32;
+        value = value * 10 + (b - b'0') as u64;
         if limit <= value {
             return Spelt::Nothing;
         }
@@ -48,8 +53,8 @@ fn digits_from(s: &[u8], from: usize, limit: u32) -> Spelt
     Spelt::Value(value)
 }
 
-fn read_below(s: &[u8], limit: u32) -> Spelt
-    requires { ⌜ (0 < limit) × (limit ≤ 65536) ⌝ }
+fn read_below(s: &[u8], limit: u64) -> Spelt
+    requires { ⌜ (0 < limit) × (limit ≤ 4294967296) ⌝ }
     ensures { λ r. ⌜ spelt r ≡ signed limit (now (s .entry)) ⌝ }
 {
     if s.len() == 0 {
@@ -77,5 +82,14 @@ pub fn read16(s: &[u8]) -> Number16
     match read_below(s, 65536) {
         Spelt::Value(n) => Number16::Value(n as u16),
         Spelt::Nothing => Number16::Refused,
+    }
+}
+
+pub fn read32(s: &[u8]) -> Number32
+    ensures { λ r. ⌜ shown32 r ≡ number 32 (now (s .entry)) ⌝ }
+{
+    match read_below(s, 4294967296) {
+        Spelt::Value(n) => Number32::Value(n as u32),
+        Spelt::Nothing => Number32::Refused,
     }
 }

@@ -11,6 +11,7 @@ use text::field::Fields;
 use text::field::Next;
 use text::number::Number8;
 use text::number::Number16;
+use text::number::Number32;
 
 pub(crate) fn valid(s: &[u8]) {
     say(b"valid_up_to");
@@ -62,10 +63,24 @@ pub(crate) fn in_16_bits(s: &[u8]) {
     line();
 }
 
-// Both widths on one text.
+pub(crate) fn in_32_bits(s: &[u8]) {
+    say(b"read32 ");
+    quoted(s);
+    say(b": ");
+    match text::number::read32(s) {
+        Number32::Value(n) => number(n as usize),
+        Number32::Refused => {
+            say(b"refused");
+        }
+    }
+    line();
+}
+
+// Every width on one text.
 pub(crate) fn read(s: &[u8]) {
     in_8_bits(s);
     in_16_bits(s);
+    in_32_bits(s);
 }
 
 // The field at a place, and the place that the walk stands at afterwards.
@@ -120,7 +135,19 @@ pub(crate) fn colon(s: &[u8]) {
     found(text::find::first_byte(s, 0, b':'));
 }
 
-// Eight dots, and what is written over them.
+// Dots, and what is written over them.
+pub(crate) fn long_in_decimal(n: u32, at: usize) {
+    let mut buf = [b'.'; 12];
+    say(b"write32 ");
+    number(n as usize);
+    say(b" at ");
+    number(at);
+    say(b": ");
+    wrote(text::decimal::write32(&mut buf, at, n));
+    quoted(&buf);
+    line();
+}
+
 pub(crate) fn in_decimal(n: u16, at: usize) {
     let mut buf = [b'.'; 8];
     say(b"write16 ");

@@ -10,6 +10,7 @@ use crate::calls::first;
 use crate::calls::in_decimal;
 use crate::calls::inside;
 use crate::calls::last;
+use crate::calls::long_in_decimal;
 use crate::calls::part;
 use crate::calls::put;
 use crate::calls::read;
@@ -82,6 +83,10 @@ fn numbers() {
     read(b"256");
     read(b"65535");
     read(b"65536");
+    read(b"4294967295");
+    read(b"4294967296");
+    read(b"42949672950");
+    read(b"+00000000004294967295");
     read(b"99999999999999999999999");
     read(b"+7");
     read(b"000007");
@@ -123,6 +128,11 @@ fn places() {
 }
 
 fn written() {
+    long_in_decimal(4294967295, 2);
+    long_in_decimal(4294967295, 3);
+    long_in_decimal(1000000000, 0);
+    long_in_decimal(999999999, 0);
+    long_in_decimal(65536, 0);
     in_decimal(0, 0);
     in_decimal(65535, 1);
     in_decimal(65535, 3);

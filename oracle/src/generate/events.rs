@@ -8,17 +8,19 @@ use crate::rng::Rng;
 pub enum Field {
     Number8,
     Number16,
+    Number32,
     Text,
     Type,
+    TypeBluetooth,
     Protocol,
     Reason,
 }
 
-use Field::{Number16, Number8, Protocol, Reason, Text, Type};
+use Field::{Number16, Number32, Number8, Protocol, Reason, Text, Type, TypeBluetooth};
 
 type Row = (&'static str, &'static [Field]);
 
-pub const W26: [Row; 14] = [
+pub const W26: [Row; 27] = [
     ("+UUDPC", &[Number16, Type, Protocol, Text, Number16, Text, Number16]),
     ("+UUDPD", &[Number16]),
     ("+UUWLE", &[Number16, Text, Number16]),
@@ -34,6 +36,20 @@ pub const W26: [Row; 14] = [
     // The Rust's name of this event, and u-blox's.
     ("UUNERR", &[Number16, Number16]),
     ("+UUNERR", &[Number16, Number16]),
+    // The lines of Bluetooth, which the Rust does not read.
+    ("+UUDATA", &[Number16, Number16]),
+    ("+UUDPC", &[Number16, TypeBluetooth, Number8, Text, Number16]),
+    ("+UUBTB", &[Text, Number8]),
+    ("+UUBTUC", &[Text, Number32]),
+    ("+UUBTUPD", &[Text, Number32]),
+    ("+UUBTUPE", &[Text]),
+    ("+UUBTACLC", &[Number16, Number8, Text]),
+    ("+UUBTACLD", &[Number16]),
+    ("+UUBTGRR", &[Number16, Number16]),
+    ("+UUBTGRW", &[Number16, Number16, Text, Number8]),
+    ("+UUBTGIC", &[Number16, Number16]),
+    ("+UUBTGN", &[Number16, Number16, Text]),
+    ("+UUBTGI", &[Number16, Number16, Text]),
 ];
 
 pub const W36: [Row; 13] = [
@@ -129,8 +145,10 @@ fn push_field(rng: &mut Rng, field: Field, bad_number: bool, bad_text: bool, out
     let (odd, good): (&[&str], &[&str]) = match field {
         Number8 => return pieces::number(rng, 255, bad_number, out),
         Number16 => return pieces::number(rng, 65_535, bad_number, out),
+        Number32 => return pieces::number(rng, 4_294_967_295, bad_number, out),
         Text => return pieces::text(rng, bad_text, out),
         Type => (&["", "1", "02", "+2", "4", "2 ", "33", "0"], &["2", "3"]),
+        TypeBluetooth => (&["", "01", "+1", "1 ", "11", "10", "2", "3"], &["1"]),
         Protocol => (&["0", "3", "4", "5", "7", "", "256", "x"], &["1", "2", "6", "+06"]),
         Reason => (&["6", "7", "255", "256", "", "-0", "05x"], &["0", "1", "2", "3", "4", "5"]),
     };

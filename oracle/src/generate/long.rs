@@ -7,6 +7,9 @@ use crate::rng::Rng;
 
 const LARGEST_PAYLOAD: usize = 4_093;
 
+/// The beginnings of W26 lines with a text at their end, one that the Rust reads and one of Bluetooth.
+const W26: [&[u8]; 2] = [b"\r\n+UUWAPSTAC:0,", b"\r\n+UUBTGN:0,1,"];
+
 /// The bytes of a line with as many digits as `replay` takes, 262,144 bytes with `walk36` before them.
 const LARGEST_WALK: usize = 131_068;
 
@@ -26,7 +29,7 @@ pub fn make(rng: &mut Rng, out: &mut Vec<u8>) -> Call {
             Call::Request { size: size(rng, payload + 6) }
         }
         4 => {
-            push_line(rng, b"\r\n+UUWAPSTAC:0,", payload, b"\r\n", out);
+            push_event(rng, payload, out);
             Call::Again26 { size: size(rng, payload) }
         }
         5 => {
@@ -51,7 +54,7 @@ fn frame(rng: &mut Rng, payload: usize, out: &mut Vec<u8>) {
     let identifier = frames::IDENTIFIERS[rng.below(frames::IDENTIFIERS.len())];
     frames::open(identifier, out);
     match identifier {
-        0x0041 => push_line(rng, b"\r\n+UUWAPSTAC:0,", payload, b"\r\n", out),
+        0x0041 => push_event(rng, payload, out),
         0x0044 => push_text(rng, payload, out),
         0x0045 => push_line(rng, b"AT\r\n", payload, b"\r\nOK\r\n", out),
         _ => frames::push_bytes(rng, payload, out),
@@ -64,6 +67,11 @@ fn size(rng: &mut Rng, need: usize) -> usize {
         0 => LARGEST_PAYLOAD + 6 + rng.below(12),
         _ => writes::size(rng, need),
     }
+}
+
+fn push_event(rng: &mut Rng, count: usize, out: &mut Vec<u8>) {
+    let before = rng.pick(&W26);
+    push_line(rng, before, count, b"\r\n", out);
 }
 
 /// `count` bytes of text in all, between a beginning and an end.

@@ -3,8 +3,8 @@
 use crate::record::push_decimal;
 use crate::rng::Rng;
 
-/// Spellings that are no number, or one past the edge of 8 or 16 bits, or just a strange one.
-const ODD_NUMBERS: [&str; 40] = [
+/// Spellings that are no number, or one past the edge of 8, 16 or 32 bits, or just a strange one.
+const ODD_NUMBERS: [&str; 46] = [
     "",
     "+",
     "++7",
@@ -40,11 +40,17 @@ const ODD_NUMBERS: [&str; 40] = [
     "65537",
     "65540",
     "99999",
+    "4294967295",
     "4294967296",
+    "4294967300",
     "4294967303",
+    "42949672950",
     "18446744073709551616",
     "18446744073709551623",
     "+00000000000000000000065536",
+    "+0000000000004294967295",
+    "0000000000004294967296",
+    "000000000000000000000000000000429496729",
 ];
 
 /// Both ends of every row of Table 3-7.

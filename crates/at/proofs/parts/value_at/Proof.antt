@@ -1,5 +1,5 @@
 -- `parts::value_at` meets its contract: a place at or past the count has no value. Assumes nothing.
-use Prim.Native.Nat.{ℕ, _<_, _≤_}
+use Prim.Native.Nat.{ℕ, _<_, _≤_, zero-le}
 use mathlib.Core.List.{List}
 use mathlib.Core.Path.{_≡_, sym}
 use native.Mathlib.Omega.{arith}
@@ -46,7 +46,7 @@ returns-8 : tie.Need-returns-8
 returns-8 c = here _ _ _ 6 (c .before .if1 .left) (c .match .keys7)
 
 returns-9 : tie.Need-returns-9
-returns-9 c = past (c .before .before .before .args .p) _ (none-of _ 7 (c .match .rest))
+returns-9 c = past (c .before .before .before .args .p) _ (none-of _ 0 7 zero-le (c .match .rest))
 
 pub value-at-spec : {M : Type 1} → statement M
 value-at-spec =

@@ -8,7 +8,7 @@ use lib.ListN.{length, drop, getD, drop-of-length-le}
 use Rattle.text.specs.Bytes.{same}
 use Rattle.at.specs.Refusal.{good}
 use Rattle.at.specs.Event.{Row, nameOf}
-use Rattle.at.specs.Line.{search as rowNamed}
+use Rattle.at.specs.Line.{rowsNamed}
 use Rattle.at.specs.TableSteps.{Tabled}
 use Rattle.at.specs.Parts.{rowNo}
 use Rattle.at.proofs.LineLaws.{row-found, row-passed}
@@ -18,7 +18,7 @@ use Rattle.at.proofs.table.row_of.Statement.{statement}
 use Rattle.at.proofs.table.row_of.Tie as tie
 
 abbrev Inv-loop : tie.InvT-loop
-Inv-loop table name at₀ row₀ at row = (at ≡ row * 20) × ((rows : List Row) → Tabled rows table → (row ≤ length rows) × (rowNamed rows name ≡ rowNamed (drop row rows) name))
+Inv-loop table name at₀ row₀ at row = (at ≡ row * 20) × ((rows : List Row) → Tabled rows table → (row ≤ length rows) × (rowsNamed rows name ≡ rowsNamed (drop row rows) name))
 
 abbrev μ-loop : tie.MeasureT-loop
 μ-loop table name at₀ row₀ at row = length table - at
@@ -62,7 +62,7 @@ returns c = λ rows t.
     let p = c .before .before .before .before in
     let q = here p rows t in
     let l = sized rows (Table p) t in
-    (omega (arith, l, p .before .loop .inv .0, p .loop-test .taken), p .before .loop .inv .1 rows t .1 ∙ rw (q .2) (row-found (q .0) (drop (suc (p .before .loop .row)) rows) _ (tested (c .before) rows t ∙ c .if1 .taken)) ∙ sym (q .1))
+    (q .0, omega (arith, l, p .before .loop .inv .0, p .loop-test .taken), q .1, p .before .loop .inv .1 rows t .1 ∙ rw (q .2) (row-found (q .0) (drop (suc (p .before .loop .row)) rows) _ (tested (c .before) rows t ∙ c .if1 .taken)))
 
 loop-again : tie.Need-loop-again Inv-loop μ-loop
 loop-again c =
@@ -78,7 +78,7 @@ loop-again c =
     )
 
 returns-2 : tie.Need-returns-2 Inv-loop μ-loop
-unfolding rowNamed
+unfolding rowsNamed
 returns-2 c = λ rows t.
     let inv = c .before .loop .inv in
     let end : length rows ≤ c .before .loop .row = omega (arith, sized rows _ t, inv .0, c .loop-test .left) in

@@ -1,6 +1,6 @@
 -- `w36::event_of` meets its contract: each row names its case. Assumes nothing.
+use Prim.Native.Nat.{zero-le}
 use native.Mathlib.Omega.{arith}
-use lib.ListN.{length}
 use Rattle.at.specs.Parts.{rowNo}
 use Rattle.at.specs.Steps.{valuesOf}
 use Rattle.at.specs.W36.{table}
@@ -11,7 +11,7 @@ use Rattle.at.proofs.w36.event_of.Tie as tie
 
 none-left : tie.Need-returns-14
 unfolding table
-none-left c = λ h. let n = none-of _ (length table) (c .match .rest) in absurd (omega (arith, h, n))
+none-left c = λ h. let n = none-of _ 0 13 zero-le (c .match .rest) in absurd (omega (arith, h, n))
 
 pub event-of-spec : {M : Type 1} → statement M
 unfolding rowNo valuesOf table

@@ -5,7 +5,7 @@ use mathlib.Core.Path.{_≡_, refl}
 use lib.Dec.{eqb}
 use borrow.Author.Tests.{ne-eqb}
 use Rattle.text.specs.Decimal.{decimal}
-use Rattle.at.specs.Event.{bits, text}
+use Rattle.at.specs.Event.{bits, text, btType}
 use Rattle.render.specs.Words.{isIPv6, protocols, reasons, numberWord}
 use Rattle.render.specs.Steps.{spelled, kindOf}
 use borrow.Author.Needs.{needs}
@@ -15,11 +15,12 @@ use Rattle.render.proofs.event.number_of.Tie as tie
 -- a letter that has no list
 plain : (c n : ℕ) → eqb c 105 ≡ false → eqb c 112 ≡ false → eqb c 114 ≡ false → numberWord (kindOf c) n ≡ decimal n
 unfolding kindOf numberWord
-plain c n i p r = rw (i, p, r) (go (eqb c 115))
+plain c n i p r = rw (i, p, r) (go (eqb c 116) (eqb c 115))
   where
-    go : (s : Bool) → numberWord (cond s text (bits 16)) n ≡ decimal n
-    go true = refl
-    go false = refl
+    go : (t s : Bool) → numberWord (cond t btType (cond s text (bits 16))) n ≡ decimal n
+    go true s = refl
+    go false true = refl
+    go false false = refl
 
 returns : tie.Need-returns
 unfolding kindOf numberWord isIPv6 spelled

@@ -15,12 +15,12 @@ use Rattle.render.proofs.event.values.Statement.{statement}
 use Rattle.render.proofs.event.values.Tie as tie
 
 abbrev Inv-loop : tie.InvT-loop
-Inv-loop buf₀ at src kinds p n to₀ i₀ t10 buf to i =
+Inv-loop buf₀ at src kinds p n to₀ i₀ buf to i =
     (i ≤ n) × (length buf ≡ length buf₀)
     × ((r : ℕ) (e : List ℕ) → Prints buf to (valuesLine (drop i (kindsIn kinds)) src (drop i (valuesOf p))) r e → Prints buf₀ at (valuesLine (kindsIn kinds) src (valuesOf p)) r e)
 
 abbrev μ-loop : tie.MeasureT-loop
-μ-loop buf₀ at src kinds p n to₀ i₀ t10 buf to i = n - i
+μ-loop buf₀ at src kinds p n to₀ i₀ buf to i = n - i
 
 loop-holds : tie.Need-loop-holds Inv-loop μ-loop
 loop-holds c = (omega arith, refl, λ r e h. h)
@@ -34,17 +34,16 @@ loop-less c = omega arith
 loop-again : tie.Need-loop-again Inv-loop μ-loop
 loop-again c =
     let said = c .before .before in
-    let space = said .before .before .before .before .before .before in
-    let turn = space .before .before .before in
+    let turn = said .before .before .before .before in
     let l = turn .before .loop in
     let counted = turn .before .before in
     let start = counted .before .before .before .before .args in
     let more : l .i < length (valuesOf (start .p)) = rw (counted .value-count .ensures) at (turn .loop-test .taken) in
-    let value = rw (said .before .before .letter-at .ensures, said .before .value-at .ensures) at (said .value .ensures) in
+    let value = rw (said .before .before .letter-at .ensures, said .before .value-at .ensures) at (said .spaced .ensures) in
     let next = values-next (kindsIn (start .kinds .now)) (start .src .now) (valuesOf (start .p)) (l .i) more in (
       omega arith,
-      said .value .kept .0 ∙ space .word .kept .0 ∙ l .inv .1,
-      λ r e h. l .inv .2 r e (rw next (prints-then (prints-then (space .word .ensures) value) h)),
+      said .spaced .kept .0 ∙ l .inv .1,
+      λ r e h. l .inv .2 r e (rw next (prints-then value h)),
     )
 
 same-length : tie.Need-same-length Inv-loop μ-loop
@@ -66,8 +65,6 @@ values-spec =
     μ-loop
     (λ c κs. search needs)
     loop-holds
-    (λ c. search needs)
-    (λ c κs. search needs)
     (λ c κs. search needs)
     (λ c κs. search needs)
     (λ c κs. search needs)

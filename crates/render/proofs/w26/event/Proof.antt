@@ -13,7 +13,7 @@ returns : tie.Need-returns
 returns c =
     c .before .before .parts-line .ensures table cases26 _
     (record {
-      tabled = record { spells = c .before .before .before .before .before .before .before .rows .ensures; rooms = roomy-w26 };
+      tabled = record { spells = c .before .before .before .before .before .before .before .rows .ensures; rooms = roomy-w26 .0 };
       names-spelled = unfold table same cases26 caseOf spelled numbered in refl;
     })
     (c .before .before .before .parts .ensures)

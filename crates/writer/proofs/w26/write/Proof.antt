@@ -9,7 +9,7 @@ use Rattle.writer.proofs.w26.write.Tie as tie
 returns : tie.Need-returns
 returns c =
     let parts = c .before .before .before .parts .ensures in
-    let bytes : Tabled table (c .before .before .before .before .before .before .rows .result) = record { spells = c .before .before .before .before .before .before .rows .ensures; rooms = roomy-w26 } in
+    let bytes : Tabled table (c .before .before .before .before .before .before .rows .result) = record { spells = c .before .before .before .before .before .before .rows .ensures; rooms = roomy-w26 .0 } in
     c .before .before .write-parts .ensures table _ bytes (parts .listed) (parts .whole)
 
 pub write-spec : {M : Type 1} → statement M

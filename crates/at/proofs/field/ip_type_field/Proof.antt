@@ -1,12 +1,12 @@
--- `field::type_field` meets its contract: the text is exactly `2` or exactly `3`. Assumes nothing.
+-- `field::ip_type_field` meets its contract: the text is exactly `2` or exactly `3`. Assumes nothing.
 use Rattle.at.specs.Event.{readField}
 use borrow.Author.Needs.{needs}
-use Rattle.at.proofs.field.type_field.Statement.{statement}
-use Rattle.at.proofs.field.type_field.Tie as tie
+use Rattle.at.proofs.field.ip_type_field.Statement.{statement}
+use Rattle.at.proofs.field.ip_type_field.Tie as tie
 
-pub type-field-spec : {M : Type 1} → statement M
+pub ip-type-field-spec : {M : Type 1} → statement M
 unfolding readField
-type-field-spec =
+ip-type-field-spec =
     tie.close
     (tie.spec
     (λ c. search needs)

@@ -1,0 +1,24 @@
+-- `field::long_field` meets its contract. Assumes nothing.
+use mathlib.Core.Path.{sym, ap, _∙_}
+use Rattle.text.specs.Number.{shown32}
+use Rattle.text.proofs.NumberLaws.{number-fits}
+use Rattle.at.specs.Event.{readField}
+use Rattle.at.proofs.TakeLaws.{kept}
+use borrow.Author.Needs.{needs}
+use Rattle.at.proofs.field.long_field.Statement.{statement}
+use Rattle.at.proofs.field.long_field.Tie as tie
+
+returns : tie.Need-returns
+unfolding readField
+returns c = λ p.
+    let read = c .before .before .before .before .read32 .ensures in
+    rw (c .number .ensures, ← read, c .before .before .n .given .1, kept 32 _ (number-fits 32 _ _ (sym read ∙ ap shown32 (c .before .before .n .given .1))))
+
+returns-2 : tie.Need-returns-2
+unfolding readField
+returns-2 c = λ p. rw (← c .before .before .read32 .ensures, c .enum-told .given .1)
+
+pub long-field-spec : {M : Type 1} → statement M
+long-field-spec =
+    tie.close
+    (tie.spec (λ c κs. search needs) (λ c. search needs) (λ c. search needs) (λ c κs. search needs) (λ c. search needs) returns returns-2)

@@ -1,0 +1,8 @@
+-- `parts::four` meets its contract. Assumes nothing.
+use Rattle.at.proofs.PartsLaws.{part-of-value}
+use borrow.Author.Needs.{needs}
+use Rattle.at.proofs.parts.four.Statement.{statement}
+use Rattle.at.proofs.parts.four.Tie as tie
+
+pub four-spec : {M : Type 1} → statement M
+four-spec = tie.close (tie.spec (λ c κs. search needs) (λ c. rw (c .up-to-five .ensures, part-of-value, part-of-value, part-of-value, part-of-value)))
