@@ -15,9 +15,8 @@ use Rattle.at.specs.Line.{before, endsIn, ended, framed, rowsNamed, fieldsAfter
 use Rattle.at.specs.Binary.{fieldsUpTo, readFields, findMarker, readData, readBody, tryRows}
 use Rattle.at.specs.Response.{readRest, readResponse, readBody as readResponseBody}
 use Rattle.at.specs.W26 as w26
-use Rattle.at.specs.W26.{UUDPD}
 use Rattle.at.specs.W36 as w36
-use Rattle.at.specs.W36.{UESOC, UEWSNU, UESODB, binaryTable}
+use Rattle.at.specs.W36.{binaryTable}
 use Rattle.edm.specs.Packet.{identifiers, carried}
 use Rattle.edm.specs.Frame.{readFrame}
 use Rattle.edm.specs.Command.{frame, command, requestOf, toSend}

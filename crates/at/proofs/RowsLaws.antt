@@ -28,7 +28,7 @@ abbrev pub Each : (Row → Type 0) → List Row → Type 0
 Each P [] = Unit {0}
 Each P (r ∷ rs) = P r × Each P rs
 
--- what holds of a row and all that have its name holds of each row of a name, which has that name
+-- what holds of each row of a table holds of each row of a name, which also has that name
 pub each-named : (P : Row → Type 0) (rows : List Row) (name : List ℕ) → Each P rows → Each (λ r. P r × (name ≡ nameOf r)) (rowsNamed rows name)
 unfolding rowsNamed
 each-named P [] name h = tt

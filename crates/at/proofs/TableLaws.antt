@@ -173,7 +173,7 @@ module _ (s : List ℕ) (k : ℕ) (h : k + 7 ≤ length s) where
       let first : drop k s ≡ getD s k 0 ∷ drop (k + 1) s = drop-cons s k 0 a ∙ rw (add-one k) in
       sym (rw (first, byte-on 1 (omega arith), byte-on 2 (omega arith), byte-on 3 (omega arith), byte-on 4 (omega arith), byte-on 5 (omega arith), byte-on 6 (omega arith)))
 
-cons-inj : {A : Type 0} {x y : A} {xs ys : List A} → x ∷ xs ≡ y ∷ ys → (x ≡ y) × (xs ≡ ys)
+pub cons-inj : {A : Type 0} {x y : A} {xs ys : List A} → x ∷ xs ≡ y ∷ ys → (x ≡ y) × (xs ≡ ys)
 cons-inj e = (cc, cc)
 
 legible-row : (rows : List Row) (i : ℕ) (r : Row) → Legible rows → rowNo rows i ≡ good r → kindsIn (lettersOf r) ≡ rowKinds r

@@ -276,7 +276,7 @@ fn is_unsupported(stop: Stop) -> bool
     }
 }
 
-// The fields of `+UUDPC`, which has two rows: a type that the first has not is left to the second.
+// The fields of `+UUDPC`, which has two rows: a line with another type than the first is left to the second.
 fn peer_fields(first: &[u8], s: &[u8], w: Fields) -> Taken
     requires { ⌜ Tabled (take 13 table) (now first) ⌝ }
     ensures { λ r. ⌜ Settles table (byType (row-ip ∷ row-bt ∷ []) (left (now (s .entry)) w)) r ⌝ }

@@ -18,7 +18,7 @@ use Rattle.at.specs.Response.{Response, ok, readRest, readResponse, readBody as
 use Rattle.at.specs.W26 as w26
 use Rattle.at.specs.W26.{UUDPC-BT, UUDPD, UUETHLU, UUNERR, UUBTUC, UUBTACLC, UUBTGRW}
 use Rattle.at.specs.W36 as w36
-use Rattle.at.specs.W36.{UESOC, UEWSNU, UESODB, binaryTable}
+use Rattle.at.specs.W36.{UEWSNU, UESODB, binaryTable}
 use Rattle.edm.specs.Packet.{Packet, startPacket, dataPacket, identifiers, carried}
 use Rattle.edm.specs.Payload.{readDataEvent}
 use Rattle.edm.specs.Frame.{readFrame}

@@ -7,7 +7,6 @@ use Rattle.at.specs.W26.{table}
 use Rattle.at.proofs.TableLaws.{outcome-read}
 use Rattle.at.proofs.TableTests.{legible-w26, rows-w26}
 use Rattle.at.proofs.RowsLaws.{row-in-front}
-use borrow.Author.Needs.{needs}
 use Rattle.at.proofs.w26.fields_of.Statement.{statement}
 use Rattle.at.proofs.w26.fields_of.Tie as tie
 

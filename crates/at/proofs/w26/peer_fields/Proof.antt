@@ -1,9 +1,8 @@
 -- `w26::peer_fields` meets its contract: a type that the first row of `+UUDPC` has not is left to the second. Assumes nothing.
-use Prim.Native.Nat.{_<_}
 use mathlib.Core.Path.{_≡_, refl, sym, ap, _∙_}
 use mathlib.Core.List.{[], _∷_}
 use native.Mathlib.Omega.{arith}
-use lib.ListN.{length, drop}
+use lib.ListN.{drop}
 use Rattle.text.specs.FieldSteps.{left}
 use Rattle.at.specs.Refusal.{good}
 use Rattle.at.specs.Event.{readRow}
