@@ -17,7 +17,7 @@ use Rattle.at.specs.Refusal.{OrRefused, good, refused}
 use Rattle.at.specs.Event.{Row, nameOf, Event, readRow}
 use Rattle.at.specs.Line.{rowsNamed, orNext, byType, byName}
 use Rattle.at.specs.Parts.{rowNo}
-use Rattle.at.specs.Steps.{eventBy, orStopped, outcomeBy, isUnsupported, readFound, readPeer}
+use Rattle.at.specs.Steps.{outcomeBy, isUnsupported, readFound, readPeer}
 use Rattle.at.specs.W26.{table, UUDPC, UUDPC-BT}
 use Rattle.at.specs.declared.field.Stop.{Stop}
 use Rattle.at.specs.declared.field.Stop.the-variants as stop
@@ -167,20 +167,13 @@ module _ (name : List ℕ) (i : ℕ) (r : Row) (fs : List Field) where
 
 -- what was taken for a row: a type that the row has not leaves the line to the next one, and all else is the row's own answer
 module _ (rows : List Row) (t : Taken) (next : OrRefused Event) where
-  pub left-to-next : isUnsupported (t .stop) ≡ true → orNext (outcomeBy rows t) next ≡ next
-  left-to-next u = go (t .stop) u
-    where
-      go : (p : Stop) → isUnsupported p ≡ true → orNext (orStopped (eventBy rows t) p) next ≡ next
-      go stop.Nowhere u = absurd (false≢true u)
-      go (stop.Refused e) u = rw u
+  left-to-next : (p : Stop) → isUnsupported p ≡ true → orNext (outcomeBy rows t p) next ≡ next
+  left-to-next stop.Nowhere u = absurd (false≢true u)
+  left-to-next (stop.Refused e) u = rw u
 
-  pub not-left : (t .stop ≡ stop.Nowhere → (r : Row) × (rowNo rows (t .row) ≡ good r)) → isUnsupported (t .stop) ≡ false → orNext (outcomeBy rows t) next ≡ outcomeBy rows t
-  not-left found u = go (t .stop) found u
-    where
-      go : (p : Stop) → (p ≡ stop.Nowhere → (r : Row) × (rowNo rows (t .row) ≡ good r)) → isUnsupported p ≡ false
-          → orNext (orStopped (eventBy rows t) p) next ≡ orStopped (eventBy rows t) p
-      go stop.Nowhere found u = rw (found refl .1)
-      go (stop.Refused e) found u = rw u
+  not-left : (r : Row) → rowNo rows (t .row) ≡ good r → (p : Stop) → isUnsupported p ≡ false → orNext (outcomeBy rows t p) next ≡ outcomeBy rows t p
+  not-left r found stop.Nowhere u = rw found
+  not-left r found (stop.Refused e) u = rw u
 
 -- of W26, only the name of the first row stands twice
 pub twice-named : rowsNamed table (nameOf UUDPC) ≡ UUDPC ∷ UUDPC-BT ∷ []
@@ -213,3 +206,29 @@ peer-read name zero r fs e f =
 peer-read name (suc i) r fs e f =
     let lone : rowsNamed (drop (suc (suc i)) table) (nameOf r) ≡ [] = rw (← one-more i, ← drop-drop (suc i) 1 table) (lone-after (drop 1 table) others-distinct i r (sym (later table i) ∙ e)) in
     rw (ne-eqb (suc i) 0 (λ q. omega arith)) (alone name (suc i) r fs table e f (λ n. lone))
+
+second-is : rowNo table 25 ≡ good UUDPC-BT
+unfolding rowNo table
+second-is = refl
+
+-- what was taken for a row is its answer, but for the first row of `+UUDPC`, which leaves to the second what has not its type
+module _ (i : ℕ) (fs : List Field) (t : Taken) (p : Stop) (e : outcomeBy table t p ≡ readFound (rowNo table i) fs) where
+  abbrev next : OrRefused Event
+  next = byType (UUDPC-BT ∷ []) fs
+
+  first : eqb i 0 ≡ true → outcomeBy table t p ≡ readRow UUDPC fs
+  first z = e ∙ rw (eqb-true i 0 z, first-is)
+
+  pub not-left-read : t .row ≡ i → cond (eqb i 0) (isUnsupported p) false ≡ false → outcomeBy table t p ≡ readPeer i fs
+  not-left-read r u = go (eqb i 0) refl u
+    where
+      go : (k : Bool) → eqb i 0 ≡ k → cond k (isUnsupported p) false ≡ false → outcomeBy table t p ≡ cond k (byType (UUDPC ∷ UUDPC-BT ∷ []) fs) (readFound (rowNo table i) fs)
+      go true z u = unfold byType in rw (← first z) (sym (not-left table t next UUDPC (rw (r, eqb-true i 0 z) first-is) p u))
+      go false z u = e
+
+  pub left-read : (second : OrRefused Event) → second ≡ readFound (rowNo table 25) fs → cond (eqb i 0) (isUnsupported p) false ≡ true → second ≡ readPeer i fs
+  left-read second s u = go (eqb i 0) refl u
+    where
+      go : (k : Bool) → eqb i 0 ≡ k → cond k (isUnsupported p) false ≡ true → second ≡ cond k (byType (UUDPC ∷ UUDPC-BT ∷ []) fs) (readFound (rowNo table i) fs)
+      go true z u = unfold byType in rw (← first z) (s ∙ rw second-is (sym (alone-decides UUDPC-BT fs)) ∙ sym (left-to-next table t next p u))
+      go false z u = absurd (false≢true u)

@@ -13,17 +13,15 @@ use lib.Seq.{drop-cons, drop-drop, drop-nil, getD-drop, take-at, drop-at, take-t
 use Rattle.text.specs.Bytes.{bytes, same, part}
 use Rattle.text.specs.Field.{Field as Part}
 use Rattle.text.proofs.Bools.{and-left, and-right}
-use Rattle.at.specs.Event.{Kind, Row, nameOf, kindsOf as rowKinds, Read, values, withValues, takeKinds, readRow}
+use Rattle.at.specs.Event.{Row, nameOf, kindsOf as rowKinds, Read, values, withValues, takeKinds, readRow}
 use Rattle.at.specs.Refusal.{OrRefused, good, refused, refusalNo}
 use Rattle.at.specs.Table.{lettersOf, filled, spelledRow, spelled, nameAt, lettersAt}
 use Rattle.at.specs.Parts.{rowNo}
 use Rattle.at.specs.TableSteps.{roomy, Tabled}
-use Rattle.at.specs.Steps.{kindsIn, kindsOf, Legible, lettersIn, valuesOf, withoutRest, stopped, Took, withFields, orStopped, outcomeBy, readFound}
-use Rattle.at.specs.declared.AtPacketError.{AtPacketError}
-use Rattle.at.specs.declared.table.Kinds.{Kinds}
+use Rattle.at.specs.Steps.{kindsIn, kindsOf, Legible, lettersIn, Lettered, valuesOf, fieldsIn, Took, outcomeBy, readFound}
+use Rattle.at.specs.declared.table.Entry.{Entry}
 use Rattle.at.specs.declared.field.Stop.{Stop}
 use Rattle.at.specs.declared.field.Stop.the-variants as stop
-use Rattle.at.specs.declared.field.Taken.{Taken}
 
 -- a text that is filled up
 filled-length : (n : ℕ) (s : List ℕ) → n ≤ 11 → length (filled n s) ≡ n
@@ -143,6 +141,11 @@ stands rows s i t h =
 pub letters-taken : (r : Row) → length (lettersOf r) ≤ 7 → take (length (lettersOf r)) (filled 7 (lettersOf r)) ≡ lettersOf r
 letters-taken r h = filled-front 7 (lettersOf r) h
 
+pub letters-first : (r : Row) (more : List ℕ) → length (lettersOf r) ≤ 7 → take (length (lettersOf r)) (filled 7 (lettersOf r) ++ more) ≡ lettersOf r
+letters-first r more h =
+    let l : length (lettersOf r) ≤ length (filled 7 (lettersOf r)) = omega (arith, filled-length 7 (lettersOf r) (omega arith), h) in
+    take-append-le (length (lettersOf r)) (filled 7 (lettersOf r)) more l ∙ letters-taken r h
+
 -- the name and the letters that are handed out are the row's
 pub row-texts : (rows : List Row) (s : List ℕ) (i : ℕ) → Tabled rows s → i < length rows → (r : Row) × (rowNo rows i ≡ good r) × (nameAt s i ≡ nameOf r) × (lettersAt s i ≡ lettersOf r)
 unfolding part
@@ -182,30 +185,22 @@ legible-row [] i r l e = let z : _≡_ {A = ℕ} 0 1 = cc in absurd (eqb-false 0
 legible-row (q ∷ rs) zero r l e = let f : q ≡ r = cc in rw f at (cons-inj l .0)
 legible-row (q ∷ rs) (suc i) r l e = legible-row rs i r (cons-inj l .1) e
 
--- what was taken for a row
-module _ (row : ℕ) (ks : List Kind) (r : OrRefused Read) (t : Taken) where
-  pub took-refused : (e : AtPacketError) → t .stop ≡ stop.Refused e → r ≡ refused (refusalNo e) → Took row ks r t
-  took-refused e p q = record { same-row = λ n. no n; same-read = rw (p, q) }
-    where
-      no : t .stop ≡ stop.Nowhere → t .row ≡ row
-      no n = let z : _≡_ {A = ℕ} 0 1 = cc in absurd (eqb-false 0 1 refl z)
-
 -- the event of a row, from what was taken for it
-took-outcome : (rows : List Row) (row : ℕ) (q : Row) (r : OrRefused Read) (t : Taken) → rowNo rows row ≡ good q → Took row (rowKinds q) r t → outcomeBy rows t ≡ withValues q r
-took-outcome rows row q r t e k = go (t .stop) r (k .same-row) (k .same-read)
+took-outcome : (rows : List Row) (row : ℕ) (q : Row) (r : OrRefused Read) (ns : List ℕ) (p : Stop) → rowNo rows row ≡ good q → Took (rowKinds q) r ns p
+    → outcomeBy rows (record { row = row; fields = fieldsIn ns }) p ≡ withValues q r
+took-outcome rows row q r ns p e k = go p r k
   where
-    go : (p : Stop) (r : OrRefused Read) → (p ≡ stop.Nowhere → t .row ≡ row) → stopped (valuesOf (rowKinds q) 0 (t .fields)) p ≡ withoutRest r
-        → orStopped (withFields (rowNo rows (t .row)) (t .fields)) p ≡ withValues q r
-    go stop.Nowhere (good (values vs fs)) h s = let v : valuesOf (rowKinds q) 0 (t .fields) ≡ vs = cc in rw (h refl, e, v)
-    go stop.Nowhere (refused n) h s = let z : _≡_ {A = ℕ} 0 1 = cc in absurd (eqb-false 0 1 refl z)
-    go (stop.Refused x) (good (values vs fs)) h s = let z : _≡_ {A = ℕ} 0 1 = cc in absurd (eqb-false 0 1 refl z)
-    go (stop.Refused x) (refused n) h s = let m : refusalNo x ≡ n = cc in rw m
+    go : (p : Stop) (r : OrRefused Read) → Took (rowKinds q) r ns p → outcomeBy rows (record { row = row; fields = fieldsIn ns }) p ≡ withValues q r
+    go stop.Nowhere (good (values vs fs)) s = let v : valuesOf (rowKinds q) 0 (fieldsIn ns) ≡ vs = cc in rw (e, v)
+    go stop.Nowhere (refused n) s = let z : _≡_ {A = ℕ} 0 1 = cc in absurd (eqb-false 0 1 refl z)
+    go (stop.Refused x) (good (values vs fs)) s = let z : _≡_ {A = ℕ} 0 1 = cc in absurd (eqb-false 0 1 refl z)
+    go (stop.Refused x) (refused n) s = let m : refusalNo x ≡ n = cc in rw m
 
 -- the fields taken by the letters of a row are those that the definition reads
-pub outcome-read : (rows : List Row) (row : ℕ) (k : Kinds) (fs : List Part) (t : Taken) → row < length rows → Legible rows
-    → take (k .count) (k .letters) ≡ lettersIn (rowNo rows row) → Took row (kindsOf k) (takeKinds (kindsOf k) fs) t → outcomeBy rows t ≡ readFound (rowNo rows row) fs
+pub outcome-read : (rows : List Row) (e : Entry) (fs : List Part) (ns : List ℕ) (p : Stop) → e .row < length rows → Legible rows → Lettered rows e
+    → Took (kindsOf (e .kinds)) (takeKinds (kindsOf (e .kinds)) fs) ns p → outcomeBy rows (record { row = e .row; fields = fieldsIn ns }) p ≡ readFound (rowNo rows (e .row)) fs
 unfolding readRow
-outcome-read rows row k fs t h l m took =
-    let q = row-listed rows row h in
-    let c : kindsOf k ≡ rowKinds (q .0) = ap kindsIn (m ∙ ap lettersIn (q .1)) ∙ legible-row rows row (q .0) l (q .1) in
-    took-outcome rows row (q .0) (takeKinds (rowKinds (q .0)) fs) t (q .1) (rw c at took) ∙ rw (q .1)
+outcome-read rows e fs ns p h l m took =
+    let q = row-listed rows (e .row) h in
+    let c : kindsOf (e .kinds) ≡ rowKinds (q .0) = ap kindsIn (m .1 ∙ ap lettersIn (q .1)) ∙ legible-row rows (e .row) (q .0) l (q .1) in
+    took-outcome rows (e .row) (q .0) (takeKinds (rowKinds (q .0)) fs) ns p (q .1) (rw c at took) ∙ rw (q .1)

@@ -1,10 +1,9 @@
--- What is computed once over each table: its names and letters have room in a row, its letters say its kinds, no row stands twice, no name of the W36
--- rows does, and of those the ones of text stand in front.
+-- What is computed once over each table: its names and letters have room in a row, its letters say its kinds, no row stands twice, and no name of the
+-- W36 rows does.
 use mathlib.Core.Path.{_≡_, refl}
 use mathlib.Core.Bool.{true}
 use lib.ListN.{length, take, drop}
 use Rattle.text.specs.Bytes.{same}
-use Rattle.at.specs.Table.{spelled}
 use Rattle.at.specs.TableSteps.{roomy}
 use Rattle.at.specs.Steps.{kindOf, Legible}
 use Rattle.at.specs.W26 as w26
@@ -13,9 +12,13 @@ use Rattle.at.specs.Line.{rowsNamed}
 use Rattle.at.proofs.RowsLaws.{distinct}
 use Rattle.at.proofs.PartsLaws.{numberOf, firsts}
 
-pub roomy-w26 : (roomy w26.table ≡ true) × (roomy (take 13 w26.table) ≡ true) × (roomy (drop 13 w26.table) ≡ true)
+pub roomy-w26 : (roomy w26.table ≡ true)
+    × (roomy (take 7 w26.table) ≡ true)
+    × (roomy (take 7 (drop 7 w26.table)) ≡ true)
+    × (roomy (take 7 (drop 14 w26.table)) ≡ true)
+    × (roomy (drop 21 w26.table) ≡ true)
 unfolding roomy w26.table
-roomy-w26 = (refl, refl, refl)
+roomy-w26 = (refl, refl, refl, refl, refl)
 
 pub rows-w26 : length w26.table ≡ 26
 unfolding w26.table
@@ -25,17 +28,17 @@ pub legible-w26 : Legible w26.table
 unfolding kindOf w26.table
 legible-w26 = refl
 
-pub roomy-w36 : (roomy w36.table ≡ true) × (roomy w36.rows36 ≡ true)
+pub roomy-w36 : (roomy w36.table ≡ true) × (roomy w36.rows36 ≡ true) × (roomy (take 7 w36.table) ≡ true) × (roomy (drop 7 w36.table) ≡ true)
 unfolding roomy w36.table w36.binaryTable w36.rows36
-roomy-w36 = (refl, refl)
+roomy-w36 = (refl, refl, refl, refl)
+
+pub rows-w36 : length w36.table ≡ 13
+unfolding w36.table
+rows-w36 = refl
 
 pub legible-w36 : Legible w36.table
 unfolding kindOf w36.table
 legible-w36 = refl
-
-pub text-in-front : take 260 (spelled w36.rows36) ≡ spelled w36.table
-unfolding spelled w36.table w36.binaryTable w36.rows36
-text-in-front = refl
 
 pub distinct-w36 : distinct w36.table ≡ true
 unfolding distinct rowsNamed same w36.table

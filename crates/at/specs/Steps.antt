@@ -1,5 +1,5 @@
 -- What the private answers of the code say in the definitions' terms. No promise of a public function cites this file.
-use Prim.Native.Nat.{ℕ, suc, _%_, _^_, _≤_, _<_}
+use Prim.Native.Nat.{ℕ, zero, suc, _+_, _*_, _%_, _^_, _≤_, _<_}
 use Prim.Native.Char.{code}
 use mathlib.Core.Path.{_≡_}
 use mathlib.Core.List.{List, [], _∷_, map}
@@ -21,7 +21,7 @@ use Rattle.at.specs.declared.binary.Data as data·
 use Rattle.at.specs.declared.binary.AddressFields as address
 use Rattle.at.specs.declared.field.Field.{Field}
 use Rattle.at.specs.declared.field.FieldAnswer as answer
-use Rattle.at.specs.declared.table.Named as named
+use Rattle.at.specs.declared.table.Entry.{Entry}
 use Rattle.at.specs.declared.table.Kinds.{Kinds}
 use Rattle.at.specs.declared.field.Stop as stop
 use Rattle.at.specs.declared.field.Taken.{Taken}
@@ -66,7 +66,7 @@ abbrev pub oneOf : Kind → answer.FieldAnswer → OrRefused Value
 oneOf k (answer.the-variants.Got f) = good (valueOf k f)
 oneOf k (answer.the-variants.Refused e) = refused (refusalNo e)
 
--- what a row's fields are read as: the values that stand in the array, with any fields after them, or what stopped it
+-- what a row's fields are read as: their values, with any fields after them, or what stopped it
 abbrev pub withoutRest : OrRefused Read → OrRefused Read
 withoutRest (good (values vs fs)) = good (values vs [])
 withoutRest (refused n) = refused n
@@ -75,9 +75,20 @@ abbrev pub stopped : List Value → stop.Stop → OrRefused Read
 stopped vs stop.the-variants.Nowhere = good (values vs [])
 stopped vs (stop.the-variants.Refused e) = refused (refusalNo e)
 
-pub record Took (i : ℕ) (ks : List Kind) (r : OrRefused Read) (t : Taken) : Type 0 where
-  pub same-row : t .stop ≡ stop.the-variants.Nowhere → t .row ≡ i
-  pub same-read : stopped (valuesOf ks 0 (t .fields)) (t .stop) ≡ withoutRest r
+-- the fields that numbers hold, two for each
+abbrev pub fieldIn : List ℕ → ℕ → Field
+fieldIn ns i = record { value = getD ns (2 * i) 0; len = getD ns (2 * i + 1) 0 }
+
+unfoldable pub fieldsFrom : ℕ → ℕ → List ℕ → List Field
+fieldsFrom zero i ns = []
+fieldsFrom (suc n) i ns = fieldIn ns i ∷ fieldsFrom n (suc i) ns
+
+abbrev pub fieldsIn : List ℕ → List Field
+fieldsIn ns = fieldsFrom 7 0 ns
+
+-- the numbers and the stop of a row whose fields are read so
+abbrev pub Took : List Kind → OrRefused Read → List ℕ → stop.Stop → Type 0
+Took ks r ns p = stopped (valuesOf ks 0 (fieldsIn ns)) p ≡ withoutRest r
 
 -- the framing of a line of s
 abbrev pub framedOf : List ℕ → framed.Framed → OrRefused Body
@@ -113,7 +124,7 @@ abbrev pub kindsOf : Kinds → List Kind
 kindsOf k = kindsIn (take (k .count) (k .letters))
 
 pub record Held (k : Kinds) : Type 0 where
-  pub room : length (k .letters) ≡ 7
+  pub room : length (k .letters) ≡ 8
   pub few : k .count ≤ 7
 
 -- the letters of a table say its kinds
@@ -124,15 +135,23 @@ Legible rows = map (λ r. kindsIn (lettersOf r)) rows ≡ map rowKinds rows
 abbrev pub SomeTable : List ℕ → Type 0
 SomeTable s = (rows : List Row) × Tabled rows s
 
--- the first row with a name, by its number, and the rows with that name after it
-abbrev pub Finds : List Row → List ℕ → named.Named → Type 0
-Finds rows name (named.the-variants.Row i) = (r : Row) × (i < length rows) × (rowNo rows i ≡ good r) × (rowsNamed rows name ≡ r ∷ rowsNamed (drop (suc i) rows) name)
-Finds rows name named.the-variants.Nothing = rowsNamed rows name ≡ []
+-- the first row with a name, by its number, and the rows with that name after it; the number of all rows where none has it
+pub record Finds (rows : List Row) (name : List ℕ) (i : ℕ) : Type 0 where
+  pub few : i ≤ length rows
+  pub found : i < length rows → (r : Row) × (rowNo rows i ≡ good r) × (rowsNamed rows name ≡ r ∷ rowsNamed (drop (suc i) rows) name)
+  pub nowhere : length rows ≤ i → rowsNamed rows name ≡ []
 
 -- the letters of a row, and none where there is no row
 abbrev pub lettersIn : OrRefused Row → List ℕ
 lettersIn (good r) = lettersOf r
 lettersIn (refused n) = []
+
+-- a row, by its number, with its letters; and that it is the row of a name
+abbrev pub Lettered : List Row → Entry → Type 0
+Lettered rows e = Held (e .kinds) × (take (e .kinds .count) (e .kinds .letters) ≡ lettersIn (rowNo rows (e .row)))
+
+abbrev pub Enters : List Row → List ℕ → Entry → Type 0
+Enters rows name e = Finds rows name (e .row) × Lettered rows e
 
 -- the event that was read, by the table's row and its fields
 abbrev pub withFields : OrRefused Row → List Field → OrRefused Event
@@ -146,13 +165,8 @@ abbrev pub orStopped : OrRefused Event → stop.Stop → OrRefused Event
 orStopped o stop.the-variants.Nowhere = o
 orStopped o (stop.the-variants.Refused e) = refused (refusalNo e)
 
-abbrev pub outcomeBy : List Row → Taken → OrRefused Event
-outcomeBy rows t = orStopped (eventBy rows t) (t .stop)
-
--- what was taken says this outcome, and where nothing stopped it, for a row of the table
-pub record Settles (rows : List Row) (o : OrRefused Event) (t : Taken) : Type 0 where
-  pub listed : t .stop ≡ stop.the-variants.Nowhere → t .row < length rows
-  pub outcome : outcomeBy rows t ≡ o
+abbrev pub outcomeBy : List Row → Taken → stop.Stop → OrRefused Event
+outcomeBy rows t p = orStopped (eventBy rows t) p
 
 abbrev pub isUnsupported : stop.Stop → Bool
 isUnsupported stop.the-variants.Nowhere = false

@@ -15,10 +15,11 @@ use text::number::read16;
 use text::number::read32;
 use text::walk::field_at;
 ghost use mathlib.Core.Path.{_≡_};
-ghost use Prim.Native.Nat.{ℕ, _≤_};
+ghost use Prim.Native.Nat.{ℕ, _<_};
+ghost use lib.ListN.{length};
 ghost use Rattle.text.specs.FieldSteps.{left};
 ghost use Rattle.at.specs.Event.{readField, takeKinds, bits, ipType, btType, protocol, reason};
-ghost use Rattle.at.specs.Steps.{kindOf, kindsOf, Held, noField, oneOf, Took};
+ghost use Rattle.at.specs.Steps.{kindOf, kindsOf, Held, fieldIn, fieldsIn, oneOf, Took};
 
 // A field that was taken: a number, or the place and the length of a text.
 pub(crate) struct Field {
@@ -142,54 +143,62 @@ pub(crate) enum Stop {
     Refused(AtPacketError),
 }
 
-// The fields of a row, in their order.
+// A row and its fields, in their order.
 pub(crate) struct Taken {
     pub row: usize,
     pub fields: [Field; 7],
-    pub stop: Stop,
 }
 
-fn no_field() -> Field
-    ensures { λ r. ⌜ r ≡ noField ⌝ }
+fn field_in(numbers: &[usize], i: usize) -> Field
+    requires { ⌜ (i < 7) × (length (now numbers) ≡ 14) ⌝ }
+    ensures { λ r. ⌜ r ≡ fieldIn (now (numbers .entry)) i ⌝ }
 {
-    Field { value: 0, len: 0 }
-}
-
-pub(crate) fn refused(e: AtPacketError) -> Taken
-    ensures { λ r. ⌜ r .stop ≡ Stop.Refused e ⌝ }
-{
-    let fields = [no_field(); 7];
-    let stop = Stop::Refused(e);
-    Taken {
-        row: 0,
-        fields,
-        stop,
+    Field {
+        value: numbers[2 * i],
+        len: numbers[2 * i + 1],
     }
 }
 
-// The fields of a row by the letters of its kinds, left to right.
-pub(crate) fn take_fields(row: usize, kinds: Kinds, s: &[u8], w: Fields) -> Taken
-    requires { ⌜ Held kinds ⌝ }
-    ensures { λ r. ⌜ Took row (kindsOf kinds) (takeKinds (kindsOf kinds) (left (now (s .entry)) w)) r ⌝ }
+// A row with the fields that `take_fields` took for it.
+pub(crate) fn taken_for(row: usize, numbers: &[usize]) -> Taken
+    requires { ⌜ length (now numbers) ≡ 14 ⌝ }
+    ensures { λ r. ⌜ r ≡ record { row = row; fields = fieldsIn (now (numbers .entry)) } ⌝ }
+{
+    let fields = [
+        field_in(numbers, 0),
+        field_in(numbers, 1),
+        field_in(numbers, 2),
+        field_in(numbers, 3),
+        field_in(numbers, 4),
+        field_in(numbers, 5),
+        field_in(numbers, 6),
+    ];
+    Taken { row, fields }
+}
+
+// The fields of a row by the letters of its kinds, left to right, two numbers for each. They are lent, so that they lie on the stack once.
+pub(crate) fn take_fields(numbers: &mut [usize], kinds: Kinds, s: &[u8], w: Fields) -> Stop
+    requires { ⌜ Held kinds × (length (now numbers) ≡ 14) ⌝ }
+    ensures { λ r. ⌜ Took (kindsOf kinds) (takeKinds (kindsOf kinds) (left (now (s .entry)) w)) (now (numbers .exit)) r ⌝ }
 {
     let letters = kinds.letters;
     let count = kinds.count;
-    let mut fields = [no_field(); 7];
     let mut at = w.at;
     let mut i = 0;
     while i < count {
         let Next::Field { start, len, rest } = field_at(s, at) else {
-            return refused(AtPacketError::TypeDecodeParameterMissing);
+            return Stop::Refused(AtPacketError::TypeDecodeParameterMissing);
         };
         match field_of(letters[i], start, part(s, start, len)) {
             FieldAnswer::Got(field) => {
-                fields[i] = field;
+                let k = 2 * i;
+                numbers[k] = field.value;
+                numbers[k + 1] = field.len;
             }
-            FieldAnswer::Refused(e) => return refused(e),
+            FieldAnswer::Refused(e) => return Stop::Refused(e),
         }
         at = rest.at;
         i += 1;
     }
-    let stop = Stop::Nowhere;
-    Taken { row, fields, stop }
+    Stop::Nowhere
 }

@@ -3,14 +3,14 @@
 use text::bytes::part;
 ghost use mathlib.Core.List.{List};
 ghost use mathlib.Core.Path.{_≡_};
-ghost use Prim.Native.Nat.{_<_, _≤_, _+_};
+ghost use Prim.Native.Nat.{_<_, _≤_, _+_, _^_};
 ghost use lib.ListN.{length, take};
 ghost use Rattle.text.specs.Bytes.{same as sameBytes, part as partOf};
 ghost use Rattle.at.specs.Event.{Row};
 ghost use Rattle.at.specs.Table.{nameAt, lettersAt};
 ghost use Rattle.at.specs.Parts.{rowNo};
 ghost use Rattle.at.specs.TableSteps.{Tabled};
-ghost use Rattle.at.specs.Steps.{SomeTable, Finds, Held, lettersIn};
+ghost use Rattle.at.specs.Steps.{SomeTable, Finds, Held, Enters, lettersIn};
 
 fn wide(x: u8) -> usize
     ensures { λ r. ⌜ (r ≡ x) × (r < 256) ⌝ }
@@ -66,13 +66,8 @@ fn has_name(table: &[u8], start: usize, len: usize, name: &[u8]) -> bool
     true
 }
 
-// The number of the row that has a name.
-pub(crate) enum Named {
-    Row(usize),
-    Nothing,
-}
-
-pub(crate) fn row_of(table: &[u8], name: &[u8]) -> Named
+// The number of the row that has a name; how many rows there are, where none has it.
+fn row_of(table: &[u8], name: &[u8]) -> usize
     requires { ⌜ SomeTable (now table) ⌝ }
     ensures { λ r. ⌜ ((rows : List Row) → Tabled rows (now (table .entry)) → Finds rows (now (name .entry)) r) ⌝ }
 {
@@ -80,17 +75,17 @@ pub(crate) fn row_of(table: &[u8], name: &[u8]) -> Named
     let mut row = 0;
     while at < table.len() {
         if has_name(table, at + 2, wide(table[at]), name) {
-            return Named::Row(row);
+            return row;
         }
         at += 20;
         row += 1;
     }
-    Named::Nothing
+    row
 }
 
-// The letters of a row's kinds, of which the first `count` count.
+// The letters of a row's kinds, of which the first `count` count. They are eight, so that they are copied as one word.
 pub(crate) struct Kinds {
-    pub letters: [u8; 7],
+    pub letters: [u8; 8],
     pub count: usize,
 }
 
@@ -101,7 +96,7 @@ pub(crate) fn kinds_of(table: &[u8], row: usize) -> Kinds
 {
     if table.len() / 20 <= row {
         return Kinds {
-            letters: *b"       ",
+            letters: *b"        ",
             count: 0,
         };
     }
@@ -115,9 +110,40 @@ pub(crate) fn kinds_of(table: &[u8], row: usize) -> Kinds
         table[k + 4],
         table[k + 5],
         table[k + 6],
+        b' ',
     ];
     Kinds {
         letters,
         count: wide(table[at + 1]),
+    }
+}
+
+// A row, by its number, and the letters of its kinds.
+pub(crate) struct Entry {
+    pub row: usize,
+    pub kinds: Kinds,
+}
+
+// The row that has a name; where none has it, its number is how many there are, and it has no letters.
+pub(crate) fn entry_of(table: &[u8], name: &[u8]) -> Entry
+    requires { ⌜ SomeTable (now table) ⌝ }
+    ensures { λ r. ⌜ ((rows : List Row) → Tabled rows (now (table .entry)) → Enters rows (now (name .entry)) r) ⌝ }
+{
+    let row = row_of(table, name);
+    Entry {
+        row,
+        kinds: kinds_of(table, row),
+    }
+}
+
+// A row of the part of a table that starts at `start`, by its number in the whole.
+pub(crate) fn numbered_from(start: usize, e: Entry) -> Entry
+    requires { ⌜ start + e .row < 2 ^ 64 ⌝ }
+    ensures { λ r. ⌜ r ≡ record { row = start + e .row; kinds = e .kinds } ⌝ }
+{
+    let kinds = e.kinds;
+    Entry {
+        row: start + e.row,
+        kinds,
     }
 }

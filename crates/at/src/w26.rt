@@ -4,30 +4,33 @@ use crate::ConnHandle;
 use crate::PeerHandle;
 use crate::Text;
 use crate::field::Stop;
-use crate::field::Taken;
-use crate::field::refused;
 use crate::field::take_fields;
+use crate::field::taken_for;
 use crate::line::Framed;
 use crate::line::frame_line;
 use crate::line::head_of;
-use crate::table::Named;
-use crate::table::kinds_of;
-use crate::table::row_of;
+use crate::table::Entry;
 use crate::w26_event::event_of;
+use crate::w26_table::bluetooth_kinds;
+use crate::w26_table::entry;
+use crate::w26_table::first_rows;
+use crate::w26_table::last_rows;
+use crate::w26_table::second_rows;
+use crate::w26_table::third_rows;
 use text::bytes::part;
 use text::field::Fields;
 use text::put::put;
 ghost use mathlib.Core.Path.{_≡_};
 ghost use Prim.Native.Nat.{_<_};
-ghost use mathlib.Core.List.{[], _∷_};
-ghost use lib.ListN.{take, drop};
+ghost use mathlib.Core.Bool.{false, cond};
+ghost use lib.Dec.{eqb};
+ghost use lib.ListN.{length, drop};
 ghost use Rattle.text.specs.FieldSteps.{left};
 ghost use Rattle.at.specs.Event.{upTo};
-ghost use Rattle.at.specs.Line.{byType, readLine, readText};
-ghost use Rattle.at.specs.W26.{table, UUDPC as row-ip, UUDPC-BT as row-bt, w26, shown};
+ghost use Rattle.at.specs.Line.{readLine, readText};
+ghost use Rattle.at.specs.W26.{table, w26, shown};
 ghost use Rattle.at.specs.Table.{spelled};
-ghost use Rattle.at.specs.TableSteps.{Tabled};
-ghost use Rattle.at.specs.Steps.{isUnsupported, readPeer, Settles};
+ghost use Rattle.at.specs.Steps.{Lettered, fieldsIn, outcomeBy, isUnsupported, readPeer};
 
 pub enum WifiLinkDisconnectedReason {
     Unknown,
@@ -209,54 +212,22 @@ pub(crate) const UUBTGI: usize = 24;
 
 pub(crate) const UUDPC_BT: usize = 25;
 
-// The number of the first row of the second half.
-const OTHERS: usize = 13;
+// How many rows there are.
+const ROWS: usize = 26;
 
-// The same rows in bytes (table.rt), in two halves: a name is looked for in the first, and the second is made only where it is not there.
-fn first_rows() -> [u8; 260]
-    ensures { λ r. ⌜ r ≡ spelled (take 13 table) ⌝ }
-{
-    *b"\x06\x07+UUDPC     wipswsw\
-        \x06\x01+UUDPD     w      \
-        \x06\x03+UUWLE     wsw    \
-        \x06\x02+UUWLD     wr     \
-        \x07\x01+UUWAPU    w      \
-        \x07\x01+UUWAPD    w      \
-        \x0a\x02+UUWAPSTAC ws     \
-        \x0a\x01+UUWAPSTAD w      \
-        \x08\x00+UUETHLU          \
-        \x08\x00+UUETHLD          \
-        \x05\x01+UUNU      w      \
-        \x05\x01+UUND      w      \
-        \x07\x02+UUNERR    ww     "
-}
-
-fn other_rows() -> [u8; 260]
-    ensures { λ r. ⌜ r ≡ spelled (drop 13 table) ⌝ }
-{
-    *b"\x07\x02+UUDATA    ww     \
-        \x06\x02+UUBTB     sb     \
-        \x07\x02+UUBTUC    sl     \
-        \x08\x02+UUBTUPD   sl     \
-        \x08\x01+UUBTUPE   s      \
-        \x09\x03+UUBTACLC  wbs    \
-        \x09\x01+UUBTACLD  w      \
-        \x08\x02+UUBTGRR   ww     \
-        \x08\x04+UUBTGRW   wwsb   \
-        \x08\x02+UUBTGIC   ww     \
-        \x07\x03+UUBTGN    wws    \
-        \x07\x03+UUBTGI    wws    \
-        \x06\x05+UUDPC     wtbsw  "
-}
-
+// The same rows in bytes (table.rt).
 pub fn rows() -> [u8; 520]
     ensures { λ r. ⌜ r ≡ spelled table ⌝ }
 {
     let first = first_rows();
-    let others = other_rows();
+    let second = second_rows();
+    let third = third_rows();
+    let last = last_rows();
     let mut all = [0u8; 520];
     put(&mut all, 0, &first);
-    put(&mut all, 260, &others);
+    put(&mut all, 140, &second);
+    put(&mut all, 280, &third);
+    put(&mut all, 420, &last);
     all
 }
 
@@ -276,66 +247,58 @@ fn is_unsupported(stop: Stop) -> bool
     }
 }
 
-// The fields of `+UUDPC`, which has two rows: a line with another type than the first is left to the second.
-fn peer_fields(first: &[u8], s: &[u8], w: Fields) -> Taken
-    requires { ⌜ Tabled (take 13 table) (now first) ⌝ }
-    ensures { λ r. ⌜ Settles table (byType (row-ip ∷ row-bt ∷ []) (left (now (s .entry)) w)) r ⌝ }
-{
-    let at = w.at;
-    let taken = take_fields(UUDPC, kinds_of(first, UUDPC), s, Fields { at });
-    let stop = taken.stop;
-    if is_unsupported(stop) {
-        let others = other_rows();
-        return take_fields(
-            UUDPC_BT,
-            kinds_of(&others, UUDPC_BT - OTHERS),
-            s,
-            Fields { at },
-        );
-    }
-    taken
-}
-
-// The fields of one of the first rows.
-fn fields_of(first: &[u8], row: usize, s: &[u8], w: Fields) -> Taken
-    requires { ⌜ Tabled (take 13 table) (now first) ⌝ }
-    ensures { λ r. ⌜ (row < 13 → Settles table (readPeer row (left (now (s .entry)) w)) r) ⌝ }
+// Whether a line is left to the second row of its name, since the first has not its type.
+fn is_left(row: usize, stop: Stop) -> bool
+    ensures { λ r. ⌜ r ≡ cond (eqb row 0) (isUnsupported stop) false ⌝ }
 {
     if row == UUDPC {
-        peer_fields(first, s, w)
+        is_unsupported(stop)
     } else {
-        take_fields(row, kinds_of(first, row), s, w)
+        false
     }
 }
 
-// The fields of the text from `start` to the end of `s`, by the rows of its name.
-fn taken_in(s: &[u8], start: usize) -> Taken
-    ensures { λ r. ⌜ Settles table (readText table start (drop start (now (s .entry)))) r ⌝ }
+// What was taken for a row, as an answer; `past` is the place just past the event.
+fn answer(row: usize, numbers: &[usize], stop: Stop, past: usize) -> EventAnswer
+    requires { ⌜ (row < length table) × (length (now numbers) ≡ 14) ⌝ }
+    ensures { λ r. ⌜ shown r ≡ upTo past (outcomeBy table (record { row = row; fields = fieldsIn (now (numbers .entry)) }) stop) ⌝ }
 {
-    let h = head_of(s, start);
-    let first = first_rows();
-    if let Named::Row(row) = row_of(&first, part(s, start, h.len)) {
-        return fields_of(&first, row, s, h.fields);
-    }
-    let others = other_rows();
-    let Named::Row(row) = row_of(&others, part(s, start, h.len)) else {
-        return refused(AtPacketError::EventUnknown);
-    };
-    take_fields(OTHERS + row, kinds_of(&others, row), s, h.fields)
-}
-
-// The event of the text from `start` to the end of `s`; `past` is the place just past it.
-fn event_in(s: &[u8], start: usize, past: usize) -> EventAnswer
-    ensures { λ r. ⌜ shown r ≡ upTo past (readText table start (drop start (now (s .entry)))) ⌝ }
-{
-    let taken = taken_in(s, start);
-    let stop = taken.stop;
     match stop {
         Stop::Nowhere => EventAnswer::Event {
-            event: event_of(taken),
+            event: event_of(taken_for(row, numbers)),
             past,
         },
         Stop::Refused(e) => EventAnswer::Refused(e),
+    }
+}
+
+// The event of a row, from its fields.
+fn event_by(e: Entry, s: &[u8], w: Fields, past: usize) -> EventAnswer
+    requires { ⌜ (e .row < length table) × Lettered table e ⌝ }
+    ensures { λ r. ⌜ shown r ≡ upTo past (readPeer (e .row) (left (now (s .entry)) w)) ⌝ }
+{
+    let at = w.at;
+    let mut row = e.row;
+    let mut numbers = [0usize; 14];
+    let kinds = e.kinds;
+    let mut stop = take_fields(&mut numbers, kinds, s, Fields { at });
+    if is_left(row, stop) {
+        row = UUDPC_BT;
+        stop = take_fields(&mut numbers, bluetooth_kinds(), s, Fields { at });
+    }
+    answer(row, &numbers, stop, past)
+}
+
+// The event of the text from `start` to the end of `s`.
+fn event_in(s: &[u8], start: usize, past: usize) -> EventAnswer
+    ensures { λ r. ⌜ shown r ≡ upTo past (readText table start (drop start (now (s .entry)))) ⌝ }
+{
+    let h = head_of(s, start);
+    let e = entry(part(s, start, h.len));
+    if e.row < ROWS {
+        event_by(e, s, h.fields, past)
+    } else {
+        EventAnswer::Refused(AtPacketError::EventUnknown)
     }
 }
 

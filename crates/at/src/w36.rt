@@ -12,6 +12,7 @@ use crate::binary::no_number;
 use crate::field::Stop;
 use crate::field::Taken;
 use crate::field::take_fields;
+use crate::field::taken_for;
 use crate::line::Framed;
 use crate::line::first_line_end;
 use crate::line::frame_line;
@@ -25,26 +26,31 @@ use crate::parts::one;
 use crate::parts::three;
 use crate::parts::two;
 use crate::parts::word;
-use crate::table::Named;
-use crate::table::kinds_of;
-use crate::table::row_of;
+use crate::table::Entry;
+use crate::w36_table::binary_rows;
+use crate::w36_table::entry;
+use crate::w36_table::first_rows;
+use crate::w36_table::last_rows;
 use text::bytes::part;
 use text::bytes::starts_at;
+use text::field::Fields;
 use text::find::Found;
 use text::find::first_byte;
 use text::number::Number8;
 use text::number::read8;
+use text::put::put;
 ghost use mathlib.Core.Path.{_≡_};
 ghost use Prim.Native.Nat.{_<_};
 ghost use lib.ListN.{length, drop};
+ghost use Rattle.text.specs.FieldSteps.{left};
 ghost use Rattle.at.specs.Refusal.{good};
 ghost use Rattle.at.specs.Event.{upTo};
 ghost use Rattle.at.specs.Line.{readLine, readText};
 ghost use Rattle.at.specs.Binary.{readBody, tried, tryRows};
 ghost use Rattle.at.specs.W36.{table, binaryTable, rows36, w36, eventOf, shown, shownBinary, UESODB, UESODBF};
 ghost use Rattle.at.specs.Table.{spelled};
-ghost use Rattle.at.specs.Parts.{Apart};
-ghost use Rattle.at.specs.Steps.{eventBy};
+ghost use Rattle.at.specs.Parts.{rowNo, Apart};
+ghost use Rattle.at.specs.Steps.{eventBy, Lettered, readFound};
 
 pub enum ATEvent {
     SocketConnected {
@@ -129,6 +135,9 @@ const UEWAPNU: usize = 11;
 
 const UEWAPND: usize = 12;
 
+// How many rows of text there are.
+const TEXT: usize = 13;
+
 const UESODB: usize = 13;
 
 const UESODBF: usize = 14;
@@ -137,25 +146,15 @@ const UESODBF: usize = 14;
 pub fn rows() -> [u8; 300]
     ensures { λ r. ⌜ r ≡ spelled rows36 ⌝ }
 {
-    *b"\x06\x01+UESOC     b      \
-        \x07\x01+UESOCL    b      \
-        \x07\x02+UESODA    bw     \
-        \x06\x03+UEWLU     wsw    \
-        \x06\x02+UEWLD     ww     \
-        \x08\x01+UEWAPSA   s      \
-        \x09\x01+UEWAPSDA  s      \
-        \x07\x00+UEWAPU           \
-        \x07\x00+UEWAPD           \
-        \x07\x00+UEWSNU           \
-        \x07\x00+UEWSND           \
-        \x08\x00+UEWAPNU          \
-        \x08\x00+UEWAPND          \
-        \x07\x01+UESODB    b      \
-        \x08\x03+UESODBF   bsw    "
+    let first = first_rows();
+    let last = last_rows();
+    let binary = binary_rows();
+    let mut all = [0u8; 300];
+    put(&mut all, 0, &first);
+    put(&mut all, 140, &last);
+    put(&mut all, 260, &binary);
+    all
 }
-
-// How many of these bytes are those of the rows of text.
-const TEXT: usize = 260;
 
 // The event of a row of text, from the fields that were taken for it. No row comes to the last arm.
 fn event_of(t: Taken) -> ATEvent
@@ -251,24 +250,33 @@ pub fn parts(e: ATEvent) -> Parts
     }
 }
 
-// The event of the text from `start` to the end of `s`; `past` is the place just past it.
-fn event_in(s: &[u8], start: usize, past: usize) -> EventAnswer
-    ensures { λ r. ⌜ shown r ≡ upTo past (readText table start (drop start (now (s .entry)))) ⌝ }
+// The event of a row, from its fields; `past` is the place just past it.
+fn event_by(e: Entry, s: &[u8], w: Fields, past: usize) -> EventAnswer
+    requires { ⌜ (e .row < length table) × Lettered table e ⌝ }
+    ensures { λ r. ⌜ shown r ≡ upTo past (readFound (rowNo table (e .row)) (left (now (s .entry)) w)) ⌝ }
 {
-    let all = rows();
-    let table = &all[0..TEXT];
-    let h = head_of(s, start);
-    let Named::Row(row) = row_of(table, part(s, start, h.len)) else {
-        return EventAnswer::Refused(AtPacketError::EventUnknown);
-    };
-    let taken = take_fields(row, kinds_of(table, row), s, h.fields);
-    let stop = taken.stop;
+    let mut numbers = [0usize; 14];
+    let kinds = e.kinds;
+    let stop = take_fields(&mut numbers, kinds, s, w);
     match stop {
         Stop::Nowhere => EventAnswer::Event {
-            event: event_of(taken),
+            event: event_of(taken_for(e.row, &numbers)),
             past,
         },
         Stop::Refused(e) => EventAnswer::Refused(e),
+    }
+}
+
+// The event of the text from `start` to the end of `s`.
+fn event_in(s: &[u8], start: usize, past: usize) -> EventAnswer
+    ensures { λ r. ⌜ shown r ≡ upTo past (readText table start (drop start (now (s .entry)))) ⌝ }
+{
+    let h = head_of(s, start);
+    let e = entry(part(s, start, h.len));
+    if e.row < TEXT {
+        event_by(e, s, h.fields, past)
+    } else {
+        EventAnswer::Refused(AtPacketError::EventUnknown)
     }
 }
 

@@ -1,7 +1,7 @@
 -- `table::kinds_of` meets its contract: the letters stand in the last seven bytes of the row. Assumes nothing.
-use Prim.Native.Nat.{suc, _+_, _*_}
-use mathlib.Core.Path.{_≡_, refl, _∙_}
-use mathlib.Core.List.{List, _∷_}
+use Prim.Native.Nat.{ℕ, suc, _+_, _*_}
+use mathlib.Core.Path.{_≡_, refl, ap, _∙_}
+use mathlib.Core.List.{List, [], _∷_, _++_}
 use native.Mathlib.Omega.{arith}
 use lib.ListN.{length, drop}
 use Rattle.at.specs.Refusal.{good}
@@ -9,7 +9,7 @@ use Rattle.at.specs.Event.{Row}
 use Rattle.at.specs.Table.{lettersOf}
 use Rattle.at.specs.TableSteps.{Tabled}
 use Rattle.at.specs.Parts.{rowNo}
-use Rattle.at.proofs.TableLaws.{sized, no-row, Stands, stands, seven, letters-taken}
+use Rattle.at.proofs.TableLaws.{sized, no-row, Stands, stands, seven, letters-first}
 use borrow.Author.Needs.{needs}
 use Rattle.at.proofs.table.kinds_of.Statement.{statement}
 use Rattle.at.proofs.table.kinds_of.Tie as tie
@@ -34,7 +34,8 @@ returns-2 c =
       λ rows t.
           let q = listed c rows t in
           let count : c .wide .result ≡ length (lettersOf (q .0)) = c .wide .ensures .0 ∙ q .3 .letter-count in
-          rw (count, seven table (row * 20 + 13) (omega (arith, q .3 .fits)), q .3 .letters, q .1) (letters-taken (q .0) (q .3 .letter-room)),
+          let letters = ap (λ (l : List ℕ). l ++ (32 ∷ [])) (seven table (row * 20 + 13) (omega (arith, q .3 .fits)) ∙ q .3 .letters) in
+          rw (count, letters, q .1) (letters-first (q .0) (32 ∷ []) (q .3 .letter-room)),
     )
 
 pub kinds-of-spec : {M : Type 1} → statement M

@@ -1,5 +1,5 @@
 -- `table::row_of` meets its contract: the row is looked for in the rows from `row` on. Assumes nothing.
-use Prim.Native.Nat.{ℕ, suc, _+_, _*_, _-_, _≤_, zero-le}
+use Prim.Native.Nat.{ℕ, suc, _+_, _*_, _-_, _≤_, _<_, zero-le}
 use mathlib.Core.Path.{_≡_, refl, sym, ap, _∙_}
 use mathlib.Core.List.{List, _∷_}
 use native.Mathlib.Numerals.{add-one}
@@ -62,7 +62,13 @@ returns c = λ rows t.
     let p = c .before .before .before .before in
     let q = here p rows t in
     let l = sized rows (Table p) t in
-    (q .0, omega (arith, l, p .before .loop .inv .0, p .loop-test .taken), q .1, p .before .loop .inv .1 rows t .1 ∙ rw (q .2) (row-found (q .0) (drop (suc (p .before .loop .row)) rows) _ (tested (c .before) rows t ∙ c .if1 .taken)))
+    let here = p .before .loop .inv .1 rows t in
+    let some : p .before .loop .row < length rows = omega (arith, l, p .before .loop .inv .0, p .loop-test .taken) in
+    record {
+      few = here .0;
+      found = λ m. (q .0, q .1, here .1 ∙ rw (q .2) (row-found (q .0) (drop (suc (p .before .loop .row)) rows) _ (tested (c .before) rows t ∙ c .if1 .taken)));
+      nowhere = λ m. absurd (omega arith);
+    }
 
 loop-again : tie.Need-loop-again Inv-loop μ-loop
 loop-again c =
@@ -82,7 +88,11 @@ unfolding rowsNamed
 returns-2 c = λ rows t.
     let inv = c .before .loop .inv in
     let end : length rows ≤ c .before .loop .row = omega (arith, sized rows _ t, inv .0, c .loop-test .left) in
-    inv .1 rows t .1 ∙ rw (drop-of-length-le rows end)
+    record {
+      few = inv .1 rows t .0;
+      found = λ m. absurd (omega arith);
+      nowhere = λ m. inv .1 rows t .1 ∙ rw (drop-of-length-le rows end);
+    }
 
 pub row-of-spec : {M : Type 1} → statement M
 row-of-spec =
