@@ -2,9 +2,9 @@
 
 use crate::judged::w26x::at_protocol::AtPacketError;
 use crate::judged::w26x::edm_protocol::{EdmPacket, EdmPacketError};
-use crate::record::{self, Call};
+use crate::record::{self, Call, Reader};
 use crate::rows::{self, Row};
-use crate::{differences, rust, show, walk, writer};
+use crate::{differences, rust, show, walk, why, writer};
 
 /// A panic that document 01 has no answer for.
 pub const PANIC: &str = "PANIC";
@@ -59,10 +59,12 @@ impl Answerer {
     fn call(&mut self, call: Call, out: &mut Vec<u8>) -> Answered {
         let (bytes, bed) = (&self.bytes, &mut self.bed);
         match call {
-            Call::Frame => frame(bytes, bed, out),
-            Call::W26 => event26(bytes, out),
-            Call::W36 => event36(bytes, out),
-            Call::Binary => binary(bytes, out),
+            Call::Read(reader) => read(reader, bytes, bed, out),
+            Call::Why(reader) => {
+                let start = out.len();
+                read(reader, bytes, bed, out)?;
+                why::carry(reader, bytes, start, out)
+            }
             Call::Walk36 => walk::answer(bytes, out),
             Call::Response => response(bytes, out),
             Call::Data { size, channel } => {
@@ -76,6 +78,15 @@ impl Answerer {
             Call::Again26 { size } => again26(bytes, size, out),
             Call::Again36 { size } => again36(bytes, size, out),
         }
+    }
+}
+
+fn read(reader: Reader, bytes: &[u8], bed: &mut Vec<u8>, out: &mut Vec<u8>) -> Answered {
+    match reader {
+        Reader::Frame => frame(bytes, bed, out),
+        Reader::W26 => event26(bytes, out),
+        Reader::W36 => event36(bytes, out),
+        Reader::Binary => binary(bytes, out),
     }
 }
 

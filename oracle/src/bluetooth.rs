@@ -4,54 +4,37 @@
 
 use crate::judged::w26x::at_protocol::AtPacketError;
 use crate::rows::{Row, Value};
-use Field::{Number, Text, Type};
+use crate::table::{self, Field};
 
-/// What a field must hold.
-#[derive(Clone, Copy)]
-enum Field {
-    /// A number of so many bits.
-    Number(u32),
-    Text,
-    /// The exact text `1`, which is no field of the Rust's enum.
-    Type,
-}
-
-/// Name, case and fields, "in the enum's order and widths".
-type Definition = (&'static str, &'static str, &'static [Field]);
-
-const ROWS: [Definition; 13] = [
-    ("+UUDATA", "DataAvailable", &[Number(16), Number(16)]),
-    ("+UUDPC", "PeerConnectedBluetooth", &[Number(16), Type, Number(8), Text, Number(16)]),
-    ("+UUBTB", "BondEvent", &[Text, Number(8)]),
-    ("+UUBTUC", "UserConfirmation", &[Text, Number(32)]),
-    ("+UUBTUPD", "UserPasskeyDisplay", &[Text, Number(32)]),
-    ("+UUBTUPE", "UserPasskeyEntry", &[Text]),
-    // The enum ends with the type; "u-blox's AT manual decides where it differs", and has the address.
-    ("+UUBTACLC", "ACLConnected", &[Number(16), Number(8), Text]),
-    ("+UUBTACLD", "ACLDisconnected", &[Number(16)]),
-    ("+UUBTGRR", "GATTRequestToRead", &[Number(16), Number(16)]),
-    ("+UUBTGRW", "GATTRequestToWrite", &[Number(16), Number(16), Text, Number(8)]),
-    ("+UUBTGIC", "GATTIndicationConfirmation", &[Number(16), Number(16)]),
-    ("+UUBTGN", "GATTNotification", &[Number(16), Number(16), Text]),
-    ("+UUBTGI", "GATTIndication", &[Number(16), Number(16), Text]),
+/// The names, each with its case in the Rust's enum.
+const CASES: [(&str, &str); 13] = [
+    ("+UUDATA", "DataAvailable"),
+    ("+UUDPC", "PeerConnectedBluetooth"),
+    ("+UUBTB", "BondEvent"),
+    ("+UUBTUC", "UserConfirmation"),
+    ("+UUBTUPD", "UserPasskeyDisplay"),
+    ("+UUBTUPE", "UserPasskeyEntry"),
+    ("+UUBTACLC", "ACLConnected"),
+    ("+UUBTACLD", "ACLDisconnected"),
+    ("+UUBTGRR", "GATTRequestToRead"),
+    ("+UUBTGRW", "GATTRequestToWrite"),
+    ("+UUBTGIC", "GATTIndicationConfirmation"),
+    ("+UUBTGN", "GATTNotification"),
+    ("+UUBTGI", "GATTIndication"),
 ];
 
-/// The name of a line and its fields. 01, "Text rules": "the text after the first colon, cut at every
-/// comma", and "no colon means no fields at all". None if the line is not text or not framed.
-pub fn parts(line: &[u8]) -> Option<(&str, Vec<&str>)> {
-    let text = std::str::from_utf8(line).ok()?.get(2..)?.strip_suffix("\r\n")?;
-    Some(match text.split_once(':') {
-        Some((name, fields)) => (name, fields.split(',').collect()),
-        None => (text, Vec::new()),
-    })
+/// The fields of a name. `+UUDPC` has a row for the types of IP as well.
+fn definition(name: &str) -> Option<&'static [Field]> {
+    let mut rows = table::W26.iter().filter(|row| !row.1.contains(&Field::TypeIp));
+    rows.find(|row| row.0 == name).map(|row| row.1)
 }
 
 /// 01, "Event lines": "Fields are taken left to right, each first for being there (14), then for its
-/// form (15); further fields are ignored". None for a name that has no row.
+/// form (15); further fields are ignored". None for a name that is not of Bluetooth.
 pub fn read<'a>(name: &str, fields: &[&'a str]) -> Option<Result<Row<'a>, AtPacketError>> {
-    let &(name, case, definition) = ROWS.iter().find(|row| row.0 == name)?;
+    let &(name, case) = CASES.iter().find(|row| row.0 == name)?;
     let mut given = fields.iter();
-    let values = definition.iter().map(|&field| {
+    let values = definition(name)?.iter().map(|&field| {
         let text = given.next().ok_or(AtPacketError::TypeDecodeParameterMissing)?;
         value(field, text)
     });
@@ -61,12 +44,13 @@ pub fn read<'a>(name: &str, fields: &[&'a str]) -> Option<Result<Row<'a>, AtPack
 
 fn value(field: Field, text: &str) -> Result<Value<'_>, AtPacketError> {
     match field {
-        Number(bits) => number(text, bits)
+        Field::Number(bits) => number(text, bits)
             .map(Value::Number)
             .ok_or(AtPacketError::TypeDecodeParameterDataTypeInvalid),
-        Text => Ok(Value::Text(text)),
-        Type if text == "1" => Ok(Value::TypeBluetooth),
-        Type => Err(AtPacketError::TypeDecodeUnsupported),
+        Field::Text => Ok(Value::Text(text)),
+        Field::TypeBluetooth if text == "1" => Ok(Value::TypeBluetooth),
+        // Another type. No row of Bluetooth has a field of any other kind.
+        _ => Err(AtPacketError::TypeDecodeUnsupported),
     }
 }
 

@@ -7,12 +7,13 @@
 use crate::hex;
 
 /// The files that are also the first part of the recorded list.
-pub const RECORDED: [&str; 5] = [
+pub const RECORDED: [&str; 6] = [
     include_str!("../cases/examples.txt"),
     include_str!("../cases/rules.txt"),
     include_str!("../cases/corners.txt"),
     include_str!("../cases/walks.txt"),
     include_str!("../cases/bluetooth.txt"),
+    include_str!("../cases/why.txt"),
 ];
 /// Inputs too long for a list that is kept.
 pub const LONG: &str = include_str!("../cases/long.txt");

@@ -1,17 +1,19 @@
-//! Counts answers by their class: the name of what was read, written or refused, without its fields.
+//! Counts answers by their class: the name of what was read or written, without its fields, or the
+//! whole refusal.
 
 use std::collections::BTreeMap;
 
 use crate::{lines, record, walk};
 
-/// The words that name the answer: `refused` has the refusal after it, a wrapper what it wraps.
+/// The words that name the answer: a wrapper has what it wraps after it, and `refused` the refusal,
+/// which may have the field and the reason.
 fn class(answer: &str) -> String {
     if let Some(class) = walk::class(answer) {
         return class;
     }
     let words = match answer.split(' ').next() {
-        Some("refused") if answer.starts_with("refused AtPacketError ") => 3,
-        Some("refused" | "ATEvent" | "ATResponse") => 2,
+        Some("refused") => return answer.to_string(),
+        Some("ATEvent" | "ATResponse") => 2,
         _ => 1,
     };
     let end = answer.match_indices(' ').nth(words - 1).map_or(answer.len(), |(at, _)| at);

@@ -2,10 +2,10 @@
 
 use std::borrow::Cow;
 
-use crate::bluetooth;
 use crate::judged::w26x::at_protocol::AtPacketError;
 use crate::judged::w26x::edm_protocol::EdmPacketError;
 use crate::rows::Row;
+use crate::{bluetooth, table};
 
 /// 02, request 2: "`+UUNERR` is the event, the bare name becomes 16". In the Rust it is the other way
 /// round, so the two names change places before the Rust is asked: a line with the plus is owed what
@@ -53,7 +53,7 @@ const BLUETOOTH_PEER: (&str, &str) = ("+UUDPC", "1");
 /// lines where the Rust refuses them for anything else, such as their UTF-8, their end or the handle
 /// before the type.
 pub fn defined26(line: &[u8], refusal: AtPacketError) -> Option<Result<Row<'_>, AtPacketError>> {
-    let (name, fields) = bluetooth::parts(line)?;
+    let (name, fields) = table::cut(table::text(line)?);
     let is_defined = match refusal {
         AtPacketError::EventUnknown => BLUETOOTH_NAMES.contains(&name),
         AtPacketError::TypeDecodeUnsupported => {

@@ -2,6 +2,7 @@
 
 #![feature(ptr_metadata)]
 
+mod amiss;
 mod answer;
 mod bluetooth;
 mod cases;
@@ -21,7 +22,10 @@ mod rust;
 mod selftest;
 mod short;
 mod show;
+mod slips;
+mod table;
 mod walk;
+mod why;
 mod writer;
 
 /// The three Rust files, compiled where they lie (build.rs).

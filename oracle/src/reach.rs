@@ -1,7 +1,8 @@
 //! Every class of answer that each kind of question can have. What the generator and the recorded
 //! list reach is held against this.
 
-use crate::walk;
+use crate::record::Reader;
+use crate::{amiss, walk};
 
 const W26_EVENTS: [&str; 26] = [
     "PeerConnectedIP",
@@ -48,14 +49,17 @@ const W36_EVENTS: [&str; 13] = [
     "AccessPointNetworkDown",
 ];
 
-/// Refusals 11, 12, 14, 15 and 16. The last does not arise for inline data, whose names are known.
-const LINE_REFUSALS: [&str; 5] = [
-    "Utf8DecodeFailed",
-    "FramingDecodeFailed",
-    "TypeDecodeParameterMissing",
-    "TypeDecodeParameterDataTypeInvalid",
-    "EventUnknown",
-];
+/// Refusals 11, 12 and 16. The last does not arise for inline data, whose names are known.
+const LINE_REFUSALS: [&str; 3] = ["Utf8DecodeFailed", "FramingDecodeFailed", "EventUnknown"];
+
+/// Refusals 14 and 15.
+const FIELD_REFUSALS: [&str; 2] =
+    ["TypeDecodeParameterMissing", "TypeDecodeParameterDataTypeInvalid"];
+
+/// Refusal 13, for a W26 line.
+const TYPE_REFUSAL: [&str; 1] = ["TypeDecodeUnsupported"];
+
+const BINARY_ANSWERS: [&str; 3] = ["SocketDataBinary", "SocketDataBinaryFrom", "notbinary"];
 
 const WRITER_REFUSALS: [&str; 2] = ["FieldNotWritable", "EventBufferTooSmall"];
 
@@ -83,12 +87,7 @@ const FRAME_PACKETS: [&str; 9] = [
     "StartEvent",
 ];
 
-const OTHERS: [&str; 22] = [
-    "frame refused AtPacketError TypeDecodeUnsupported",
-    "w26 refused TypeDecodeUnsupported",
-    "binary SocketDataBinary",
-    "binary SocketDataBinaryFrom",
-    "binary notbinary",
+const OTHERS: [&str; 17] = [
     "response Ok",
     "response Error",
     "response Other",
@@ -108,28 +107,59 @@ const OTHERS: [&str; 22] = [
     "again36 wrote",
 ];
 
-/// The classes with their kind before them, as `classes::kind` and `classes::class` give them.
+/// The classes with their kind before them, as `classes::label` gives them.
 pub fn labels() -> Vec<String> {
     let mut labels: Vec<String> = OTHERS.iter().map(|label| label.to_string()).collect();
-    let mut add = |before: &str, names: &[&str]| {
-        labels.extend(names.iter().map(|name| format!("{before}{name}")));
-    };
-    add("frame ", &FRAME_PACKETS);
-    add("frame ATEvent ", &W26_EVENTS);
-    add("frame refused ", &FRAME_REFUSALS);
-    add("frame refused AtPacketError ", &LINE_REFUSALS);
-    add("w26 ", &W26_EVENTS);
-    add("w26 refused ", &LINE_REFUSALS);
-    add("w36 ", &W36_EVENTS);
-    add("w36 refused ", &LINE_REFUSALS);
-    add("binary refused ", &LINE_REFUSALS[..4]);
-    for count in walk::COUNTS {
-        add(&format!("walk36 {count} "), &["end"]);
-        add(&format!("walk36 {count} refused "), &LINE_REFUSALS);
+    for reader in Reader::ALL {
+        add_read(&mut labels, reader);
     }
-    add("again26 refused ", &LINE_REFUSALS);
-    add("again26 refused ", &WRITER_REFUSALS);
-    add("again36 refused ", &LINE_REFUSALS);
-    add("again36 refused ", &WRITER_REFUSALS);
+    for count in walk::COUNTS {
+        add(&mut labels, &format!("walk36 {count} "), &["end"]);
+        add(&mut labels, &format!("walk36 {count} refused "), &LINE_REFUSALS);
+        add(&mut labels, &format!("walk36 {count} refused "), &FIELD_REFUSALS);
+    }
+    for again in ["again26 refused ", "again36 refused "] {
+        add(&mut labels, again, &LINE_REFUSALS);
+        add(&mut labels, again, &FIELD_REFUSALS);
+        add(&mut labels, again, &WRITER_REFUSALS);
+    }
     labels
+}
+
+fn add(labels: &mut Vec<String>, before: &str, names: &[&str]) {
+    labels.extend(names.iter().map(|name| format!("{before}{name}")));
+}
+
+/// The classes of both words of a reader: they part only where a refusal has a field.
+fn add_read(labels: &mut Vec<String>, reader: Reader) {
+    let (plain, why) = (reader.word(), reader.why_word());
+    let refused = if reader == Reader::Frame { "refused AtPacketError" } else { "refused" };
+    for word in [plain, why] {
+        add_without_field(labels, reader, word, refused);
+    }
+    add(labels, &format!("{plain} {refused} "), &FIELD_REFUSALS);
+    for found in amiss::flaws(reader).iter().map(|flaw| flaw.found) {
+        let label = format!("{why} {refused} {} {found}", found.amiss.refusal());
+        if !labels.contains(&label) {
+            labels.push(label);
+        }
+    }
+}
+
+fn add_without_field(labels: &mut Vec<String>, reader: Reader, word: &str, refused: &str) {
+    let (events, refusals): (&[&str], &[&str]) = match reader {
+        Reader::Frame | Reader::W26 => (&W26_EVENTS, &LINE_REFUSALS),
+        Reader::W36 => (&W36_EVENTS, &LINE_REFUSALS),
+        Reader::Binary => (&BINARY_ANSWERS, &LINE_REFUSALS[..2]),
+    };
+    let wrapper = if reader == Reader::Frame { "ATEvent " } else { "" };
+    add(labels, &format!("{word} {wrapper}"), events);
+    add(labels, &format!("{word} {refused} "), refusals);
+    if matches!(reader, Reader::Frame | Reader::W26) {
+        add(labels, &format!("{word} {refused} "), &TYPE_REFUSAL);
+    }
+    if reader == Reader::Frame {
+        add(labels, &format!("{word} "), &FRAME_PACKETS);
+        add(labels, &format!("{word} refused "), &FRAME_REFUSALS);
+    }
 }

@@ -2,13 +2,45 @@
 
 use crate::hex;
 
-/// One question. The bytes that it is about stand beside it.
-#[derive(Clone, Copy)]
-pub enum Call {
+/// What reads one input.
+#[derive(Clone, Copy, PartialEq)]
+pub enum Reader {
     Frame,
     W26,
     W36,
     Binary,
+}
+
+impl Reader {
+    pub const ALL: [Reader; 4] = [Reader::Frame, Reader::W26, Reader::W36, Reader::Binary];
+
+    /// The word that asks for the answer.
+    pub fn word(self) -> &'static str {
+        match self {
+            Reader::Frame => "frame",
+            Reader::W26 => "w26",
+            Reader::W36 => "w36",
+            Reader::Binary => "binary",
+        }
+    }
+
+    /// The word that asks for the field and the reason as well.
+    pub fn why_word(self) -> &'static str {
+        match self {
+            Reader::Frame => "whyframe",
+            Reader::W26 => "why26",
+            Reader::W36 => "why36",
+            Reader::Binary => "whybinary",
+        }
+    }
+}
+
+/// One question. The bytes that it is about stand beside it. Why is Read with the field and the reason
+/// of a refusal (02, request 5).
+#[derive(Clone, Copy)]
+pub enum Call {
+    Read(Reader),
+    Why(Reader),
     Walk36,
     Response,
     Data { size: usize, channel: u8 },
@@ -31,10 +63,6 @@ pub fn parse(line: &[u8], bytes: &mut Vec<u8>) -> Option<Call> {
     let mut words = line.split(|&b| b == b' ');
     let kind = words.next()?;
     let call = match kind {
-        b"frame" => Call::Frame,
-        b"w26" => Call::W26,
-        b"w36" => Call::W36,
-        b"binary" => Call::Binary,
         b"walk36" => Call::Walk36,
         b"response" => Call::Response,
         b"data" => Call::Data {
@@ -45,13 +73,20 @@ pub fn parse(line: &[u8], bytes: &mut Vec<u8>) -> Option<Call> {
         b"resend" => Call::Resend { size: size(words.next()?)? },
         b"again26" => Call::Again26 { size: size(words.next()?)? },
         b"again36" => Call::Again36 { size: size(words.next()?)? },
-        _ => return None,
+        word => read(word)?,
     };
     let whole = match call {
         Call::Resend { .. } => hex::read(b"-", bytes),
         _ => hex::read(words.next()?, bytes),
     };
     (whole && words.next().is_none()).then_some(call)
+}
+
+fn read(word: &[u8]) -> Option<Call> {
+    let word = std::str::from_utf8(word).ok()?;
+    let plain = Reader::ALL.iter().find(|reader| reader.word() == word);
+    let why = Reader::ALL.iter().find(|reader| reader.why_word() == word);
+    plain.map(|&reader| Call::Read(reader)).or(why.map(|&reader| Call::Why(reader)))
 }
 
 fn size(word: &[u8]) -> Option<usize> {
@@ -65,32 +100,29 @@ fn number(word: &[u8]) -> Option<usize> {
 /// Writes the line of a question.
 pub fn push(out: &mut Vec<u8>, call: Call, bytes: &[u8]) {
     match call {
-        Call::Frame => out.extend_from_slice(b"frame "),
-        Call::W26 => out.extend_from_slice(b"w26 "),
-        Call::W36 => out.extend_from_slice(b"w36 "),
-        Call::Binary => out.extend_from_slice(b"binary "),
-        Call::Walk36 => out.extend_from_slice(b"walk36 "),
-        Call::Response => out.extend_from_slice(b"response "),
-        Call::Data { size, channel } => push_numbers(out, "data ", &[size, channel as usize]),
-        Call::Request { size } => push_numbers(out, "request ", &[size]),
-        Call::Resend { size } => {
-            push_numbers(out, "resend ", &[size]);
-            out.pop();
-        }
-        Call::Again26 { size } => push_numbers(out, "again26 ", &[size]),
-        Call::Again36 { size } => push_numbers(out, "again36 ", &[size]),
+        Call::Read(reader) => push_words(out, reader.word(), &[]),
+        Call::Why(reader) => push_words(out, reader.why_word(), &[]),
+        Call::Walk36 => push_words(out, "walk36", &[]),
+        Call::Response => push_words(out, "response", &[]),
+        Call::Data { size, channel } => push_words(out, "data", &[size, channel as usize]),
+        Call::Request { size } => push_words(out, "request", &[size]),
+        Call::Resend { size } => push_words(out, "resend", &[size]),
+        Call::Again26 { size } => push_words(out, "again26", &[size]),
+        Call::Again36 { size } => push_words(out, "again36", &[size]),
     }
     if !matches!(call, Call::Resend { .. }) {
+        out.push(b' ');
         hex::push(out, bytes);
     }
     out.push(b'\n');
 }
 
-fn push_numbers(out: &mut Vec<u8>, kind: &str, numbers: &[usize]) {
+/// The word of a question and its numbers.
+fn push_words(out: &mut Vec<u8>, kind: &str, numbers: &[usize]) {
     out.extend_from_slice(kind.as_bytes());
     for &n in numbers {
-        push_decimal(out, n);
         out.push(b' ');
+        push_decimal(out, n);
     }
 }
 

@@ -1,14 +1,14 @@
 //! The list of questions that is kept with its answers: the documents' own cases, the sizes around
 //! every exact fit, and a sample of the generator that reaches every class of answer.
 
-use std::collections::BTreeMap;
+use std::collections::{BTreeMap, BTreeSet};
 
 use crate::answer::Answerer;
-use crate::record::{self, Call};
-use crate::{cases, classes, generate};
+use crate::record::{self, Call, Reader};
+use crate::{amiss, cases, classes, generate};
 
 /// Drawn from the generator to find lines of every class.
-const DRAWN: usize = 120_000;
+const DRAWN: usize = 400_000;
 /// Kept of each class, and of all draws as they come.
 const OF_EACH_CLASS: usize = 12;
 const AS_THEY_COME: usize = 1_000;
@@ -77,6 +77,7 @@ pub fn lines(out: &mut Vec<u8>) -> Result<(), String> {
     small_writes(out);
     event_sizes(out)?;
     event_ends(out)?;
+    field_flaws(out);
     sample_by_class(out);
     sample(out);
     Ok(())
@@ -104,7 +105,7 @@ fn small_frames(out: &mut Vec<u8>) {
             if let Some(last) = frame.last_mut().filter(|_| size > 1) {
                 *last = 0x55;
             }
-            record::push(out, Call::Frame, &frame);
+            record::push(out, Call::Read(Reader::Frame), &frame);
         }
     }
 }
@@ -145,6 +146,16 @@ fn event_ends(out: &mut Vec<u8>) -> Result<(), String> {
     Ok(())
 }
 
+/// Every flaw of every row, alone in its line.
+fn field_flaws(out: &mut Vec<u8>) {
+    push_heading(out, "# Every field of every line: missing, or of each wrong form");
+    for reader in [Reader::W26, Reader::W36, Reader::Binary] {
+        for flaw in amiss::flaws(reader) {
+            record::push(out, Call::Why(reader), &flaw.line(reader));
+        }
+    }
+}
+
 fn bytes_of(text: &str) -> Result<Vec<u8>, String> {
     cases::bytes(text).ok_or_else(|| format!("no bytes: {text}"))
 }
@@ -162,25 +173,43 @@ fn sample_by_class(out: &mut Vec<u8>) {
     let mut maker = generate::Maker::new(SEED);
     let mut answerer = Answerer::default();
     let mut found: BTreeMap<String, Vec<Vec<u8>>> = BTreeMap::new();
-    let (mut line, mut answer) = (Vec::new(), Vec::new());
+    let mut line = Vec::new();
     for _ in 0..DRAWN {
         line.clear();
-        answer.clear();
         maker.line(&mut line);
         line.pop();
         if line.len() > LONGEST {
             continue;
         }
-        answerer.answer(&line, &mut answer);
-        let kept = found.entry(classes::label(&line, &answer)).or_default();
+        let kept = found.entry(label(&mut answerer, &line)).or_default();
         if kept.len() < OF_EACH_CLASS {
             kept.push(line.clone());
         }
     }
+    // No other label comes after these.
+    let why = found.split_off("why");
     for (label, kept) in found {
         push_heading(out, &format!("# Generated: {label}"));
         kept.iter().for_each(|line| push_line(out, line));
     }
+    push_new_classes(out, why);
+}
+
+fn label(answerer: &mut Answerer, line: &[u8]) -> String {
+    let mut answer = Vec::new();
+    answerer.answer(line, &mut answer);
+    classes::label(line, &answer)
+}
+
+/// The questions that ask why share most classes with the plain ones, and the lines above have many of
+/// their own. One line of each class that is still missing is enough.
+fn push_new_classes(out: &mut Vec<u8>, found: BTreeMap<String, Vec<Vec<u8>>>) {
+    let mut answerer = Answerer::default();
+    let above = out.split(|&b| b == b'\n').filter(|line| line.starts_with(b"why"));
+    let above: BTreeSet<_> = above.map(|line| label(&mut answerer, line)).collect();
+    push_heading(out, "# Generated: further classes of the questions that ask why");
+    let new = found.iter().filter(|(label, _)| !above.contains(*label));
+    new.filter_map(|(_, kept)| kept.first()).for_each(|line| push_line(out, line));
 }
 
 fn sample(out: &mut Vec<u8>) {

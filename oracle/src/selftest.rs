@@ -4,24 +4,25 @@ use crate::answer::{self, Answerer, Outcome};
 use crate::classes::{self, Counts};
 use crate::judged::w26x::at_protocol::AtPacketError;
 use crate::judged::w26x::edm_protocol::{EdmPacket, EdmPacketError, EDM_PACKET_WIRE_OVERHEAD};
-use crate::{cases, differences, generate, reach, record, recorded, rust};
+use crate::{cases, differences, generate, reach, record, recorded, rust, slips};
 
 /// Enough draws for every class, and quick.
-const DRAWN: usize = 200_000;
+const DRAWN: usize = 400_000;
 
 /// True if nothing is amiss. What is amiss is printed.
 pub fn run() -> Result<bool, String> {
-    let mut amiss = other_facts();
+    let mut amiss = other_facts() + slips::silent();
     for text in cases::RECORDED.into_iter().chain([cases::LONG]) {
         amiss += wrong_answers(text)?;
     }
+    amiss += slips::not_noticed("the cases", &typed()?);
     let mut list = Vec::new();
     recorded::lines(&mut list)?;
-    amiss += not_reached("the recorded list", &list);
+    amiss += not_covered("the recorded list", &list);
     let mut maker = generate::Maker::new(1);
     let mut drawn = Vec::new();
     (0..DRAWN).for_each(|_| maker.line(&mut drawn));
-    amiss += not_reached("the generator", &drawn);
+    amiss += not_covered("the generator", &drawn);
     println!("selftest: {amiss} amiss");
     Ok(amiss == 0)
 }
@@ -57,6 +58,20 @@ fn wrong_answers(text: &'static str) -> Result<usize, String> {
     Ok(wrong)
 }
 
+/// The questions of the cases alone.
+fn typed() -> Result<Vec<u8>, String> {
+    let mut questions = Vec::new();
+    for text in cases::RECORDED {
+        for entry in cases::entries(text)? {
+            if let cases::Entry::Case { question, .. } = entry {
+                questions.extend_from_slice(&question);
+                questions.push(b'\n');
+            }
+        }
+    }
+    Ok(questions)
+}
+
 /// What the documents say of the Rust that no record line can ask.
 fn other_facts() -> usize {
     let refused = rust::write(&EdmPacket::StartEvent, answer::odd_place(&mut Vec::new(), 16));
@@ -87,6 +102,12 @@ fn other_facts() -> usize {
 fn is_unknown(name: &str) -> bool {
     let line = format!("\r\n{name}:0,0,a,0\r\n");
     matches!(rust::event26(line.as_bytes()), Some(Err(AtPacketError::EventUnknown)))
+}
+
+/// A list of questions must reach every class of answer, and ask for every flaw and show every slip in
+/// what a refusal for a field carries.
+fn not_covered(what: &str, lines: &[u8]) -> usize {
+    not_reached(what, lines) + slips::not_asked(what, lines) + slips::not_noticed(what, lines)
 }
 
 fn not_reached(what: &str, lines: &[u8]) -> usize {

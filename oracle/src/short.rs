@@ -1,6 +1,11 @@
-//! Every string up to some length over a few symbols, bare and after the beginnings of events.
+//! Every string up to some length over a few symbols, bare and after the beginnings of events. What a
+//! reader reads is asked about with both of its words.
 
-use crate::record::{self, Call};
+use crate::record::{self, Call, Reader};
+
+const W26: Call = Call::Read(Reader::W26);
+const W36: Call = Call::Read(Reader::W36);
+const BINARY: Call = Call::Read(Reader::Binary);
 
 /// The bytes that the readers look for, digits, a letter, and the halves of a two-byte character.
 const MARKS: &[&[u8]] =
@@ -23,6 +28,12 @@ const FEW: &[&[u8]] = &[b"0", b",", b"a"];
 
 /// All but the last digit of the largest number of 32 bits, and what may stand around it.
 const WIDEST: &[&[u8]] = &[b"429496729", b"0", b"4", b"5", b"6", b"+", b","];
+
+/// The same for 16 bits, with a byte that is not allowed.
+const WIDE: &[&[u8]] = &[b"6553", b"0", b"5", b"6", b"+", b",", b"x"];
+
+/// Whole fields, each with its comma: in some list or in none, no number, and empty.
+const WHOLE: &[&[u8]] = &[b",1", b",2", b",9", b",x", b","];
 
 /// What the Bluetooth names have after `+UUBT`.
 const NAMES: &[&[u8]] = &[b"G", b"I", b"C", b"N", b"R", b"W", b"U", b"P", b"D", b"E", b"B", b"ACL"];
@@ -60,40 +71,44 @@ const fn set(
     Set { call, before, symbols, longest, after }
 }
 
-pub const SETS: [Set; 38] = [
-    set(Call::W26, b"", MARKS, 4, b""),
-    set(Call::W26, b"\r\n", MARKS, 4, b"\r\n"),
-    set(Call::W26, b"\r\n+UUDPD", MARKS, 4, b""),
-    set(Call::W26, b"\r\n+UUDPD", MARKS, 4, b"\r\n"),
-    set(Call::W26, b"\r\n+UUETHLU", MARKS, 3, b"\r\n"),
-    set(Call::W26, b"\r\n+UUDPC:", DIGITS, 3, b",1,a,2,b,3\r\n"),
-    set(Call::W26, b"\r\n+UUDPC:1,3,", DIGITS, 3, b",,7,,8\r\n"),
-    set(Call::W26, b"\r\n+UUWLD:1,", DIGITS, 3, b"\r\n"),
-    set(Call::W26, b"\r\n", PLUS, 6, b"\r\n"),
-    set(Call::W26, b"\r\n+UUBT", NAMES, 3, b"\r\n"),
+pub const SETS: [Set; 42] = [
+    set(W26, b"", MARKS, 4, b""),
+    set(W26, b"\r\n", MARKS, 4, b"\r\n"),
+    set(W26, b"\r\n+UUDPD", MARKS, 4, b""),
+    set(W26, b"\r\n+UUDPD", MARKS, 4, b"\r\n"),
+    set(W26, b"\r\n+UUDPD:", WIDE, 4, b"\r\n"),
+    set(W26, b"\r\n+UUETHLU", MARKS, 3, b"\r\n"),
+    set(W26, b"\r\n+UUDPC:1", WHOLE, 6, b"\r\n"),
+    set(W26, b"\r\n+UUDPC:", DIGITS, 3, b",1,a,2,b,3\r\n"),
+    set(W26, b"\r\n+UUDPC:1,3,", DIGITS, 3, b",,7,,8\r\n"),
+    set(W26, b"\r\n+UUWLD:1,", DIGITS, 3, b"\r\n"),
+    set(W26, b"\r\n", PLUS, 6, b"\r\n"),
+    set(W26, b"\r\n+UUBT", NAMES, 3, b"\r\n"),
     // Every name with this beginning reads these fields.
-    set(Call::W26, b"\r\n+UUBT", NAMES, 3, b":0,0,a,0\r\n"),
-    set(Call::W26, b"\r\n+UUBTACLD", MARKS, 3, b"\r\n"),
-    set(Call::W26, b"\r\n+UUBTACLD:", FIELDS, 5, b"\r\n"),
-    set(Call::W26, b"\r\n+UUBTACLC:", FIELDS, 5, b"\r\n"),
-    set(Call::W26, b"\r\n+UUBTB:", FIELDS, 5, b"\r\n"),
-    set(Call::W26, b"\r\n+UUBTB:,", DIGITS, 3, b"\r\n"),
-    set(Call::W26, b"\r\n+UUBTUC:a,", WIDEST, 4, b"\r\n"),
-    set(Call::W26, b"\r\n+UUBTGRW:", FEW, 7, b"\r\n"),
-    set(Call::W26, b"\r\n+UUDPC:3,1", FIELDS, 6, b"\r\n"),
+    set(W26, b"\r\n+UUBT", NAMES, 3, b":0,0,a,0\r\n"),
+    set(W26, b"\r\n+UUBTACLD", MARKS, 3, b"\r\n"),
+    set(W26, b"\r\n+UUBTACLD:", FIELDS, 5, b"\r\n"),
+    set(W26, b"\r\n+UUBTACLC:", FIELDS, 5, b"\r\n"),
+    set(W26, b"\r\n+UUBTB:", FIELDS, 5, b"\r\n"),
+    set(W26, b"\r\n+UUBTB:,", DIGITS, 3, b"\r\n"),
+    set(W26, b"\r\n+UUBTUC:a,", WIDEST, 4, b"\r\n"),
+    set(W26, b"\r\n+UUBTGRW:", FEW, 7, b"\r\n"),
+    set(W26, b"\r\n+UUDPC:3,1", FIELDS, 6, b"\r\n"),
     set(Call::Again26 { size: 21 }, b"\r\n+UUBTGRW:1,2,", MARKS, 3, b",+03\r\n"),
-    set(Call::W36, b"", MARKS, 4, b""),
-    set(Call::W36, b"\r\n", MARKS, 4, b"\r\n"),
-    set(Call::W36, b"\r\n+UESOC", MARKS, 4, b""),
-    set(Call::W36, b"\r\n+UESOC", MARKS, 4, b"\r\n"),
-    set(Call::W36, b"\r\n+UEWAPSA", MARKS, 4, b"\r\n"),
-    set(Call::W36, b"\r\n+UESOCL:", DIGITS, 4, b"\r\n"),
-    set(Call::W36, b"\r\n+UEWAPU", MARKS, 3, b"\r\n"),
-    set(Call::Binary, b"", MARKS, 3, b""),
-    set(Call::Binary, b"\r\n+UESODB", MARKS, 4, b""),
-    set(Call::Binary, b"\r\n+UESODB:", INLINE, 5, b""),
-    set(Call::Binary, b"\r\n+UESODBF:", INLINE, 5, b"\x01\x00\x01\xFF"),
-    set(Call::Binary, b"\r\n+UESODBF:1,a", INLINE, 5, b""),
+    set(W36, b"", MARKS, 4, b""),
+    set(W36, b"\r\n", MARKS, 4, b"\r\n"),
+    set(W36, b"\r\n+UESOC", MARKS, 4, b""),
+    set(W36, b"\r\n+UESOC", MARKS, 4, b"\r\n"),
+    set(W36, b"\r\n+UEWAPSA", MARKS, 4, b"\r\n"),
+    set(W36, b"\r\n+UESOCL:", DIGITS, 4, b"\r\n"),
+    set(W36, b"\r\n+UEWLU:", FEW, 5, b"\r\n"),
+    set(W36, b"\r\n+UEWAPU", MARKS, 3, b"\r\n"),
+    set(BINARY, b"", MARKS, 3, b""),
+    set(BINARY, b"\r\n+UESODB", MARKS, 4, b""),
+    set(BINARY, b"\r\n+UESODB:", INLINE, 5, b""),
+    set(BINARY, b"\r\n+UESODBF:", INLINE, 5, b"\x01\x00\x01\xFF"),
+    set(BINARY, b"\r\n+UESODBF:1,a", INLINE, 5, b""),
+    set(BINARY, b"\r\n+UESODBF:1,a,", WIDE, 4, b"\x01\x00\x00"),
     set(Call::Walk36, b"", EVENTS, 5, b""),
     set(Call::Walk36, b"\r\n+UESOC:1\r\n", MARKS, 4, b"\r\n"),
     set(Call::Walk36, b"\r\n+UESODB:2\x01\x00\x02", MARKS, 4, b""),
@@ -107,7 +122,11 @@ impl Set {
         for length in 0..=self.longest {
             let count = self.symbols.len().pow(length as u32);
             for number in 0..count {
-                record::push(out, self.call, &self.string(length, number));
+                let string = self.string(length, number);
+                record::push(out, self.call, &string);
+                if let Call::Read(reader) = self.call {
+                    record::push(out, Call::Why(reader), &string);
+                }
             }
         }
     }

@@ -1,12 +1,57 @@
--- What a write comes to. Assumes nothing.
-use Prim.Native.Nat.{ℕ}
-use mathlib.Core.Path.{_≡_, ap, _∙_}
+-- What a write comes to, and the plain number of a read. Assumes nothing.
+use Prim.Native.Nat.{ℕ, _%_}
+use mathlib.Core.Path.{_≡_, refl, ap, _∙_}
 use mathlib.Core.List.{List}
-use Rattle.at.specs.Refusal.{OrRefused}
+use native.Mathlib.Omega.{arith}
+use Rattle.at.specs.Refusal.{Refusal, no, missing, invalid, numberOf, OrRefused, good, refused}
+use Rattle.at.specs.Binary.{Tried, notBinary, tried}
 use Rattle.edm.specs.Command.{shown, Writes}
+use Rattle.at.specs.Refusal as events
+use Rattle.at.specs.declared.AtPacketError.{AtPacketError}
+use Rattle.at.specs.declared.AtPacketError.the-variants as at
+use Rattle.edm.specs.Refusal as frames
+use Rattle.edm.specs.declared.EdmPacketError.{EdmPacketError}
+use Rattle.edm.specs.declared.EdmPacketError.the-variants as frame
 use Rattle.edm.specs.declared.WriteAnswer.{WriteAnswer}
-use Rattle.abi.specs.Code.{writeCode, Sends}
+use Rattle.abi.specs.Code.{readCode, binaryCode, whyNo, whyCode, whyBinaryCode, writeCode, Sends}
+use Rattle.abi.proofs.Numbers.{Known, known, Ok, Tried-ok}
 
 -- a write's number and the buffer that it leaves, from its answer
 pub sends : (b : List ℕ) (w : OrRefused (List ℕ)) {a : WriteAnswer} {r : ℕ} {e : List ℕ} → Writes b w a e → r ≡ writeCode (shown a) → Sends b w r e
 sends b w p n = record { answers = n ∙ ap writeCode (p .answers); leaves = p .leaves }
+
+-- the lowest byte of the number that says why is the number of the refusal
+pub refusal-lowest : (n : Refusal) → Known (numberOf n) → whyNo n % 256 ≡ numberOf n
+refusal-lowest (no n) k = omega (arith, k .most)
+refusal-lowest (missing i) k = omega arith
+refusal-lowest (invalid i why) k = omega arith
+
+pub read-lowest : {A : Type 0} (o : OrRefused A) → Ok o → whyCode o % 256 ≡ readCode o
+read-lowest (good a) k = refl
+read-lowest (refused n) k = refusal-lowest n k
+
+pub binary-lowest : (t : Tried) → Tried-ok t → whyBinaryCode t % 256 ≡ binaryCode t
+binary-lowest notBinary k = refl
+binary-lowest (tried a) k = read-lowest a k
+
+-- every refusal of the code has a number from 1 to 16
+pub at-known : (e : AtPacketError) → Known (events.refusalNo e)
+at-known at.Utf8DecodeFailed = known 11 refl refl
+at-known at.FramingDecodeFailed = known 12 refl refl
+at-known at.TypeDecodeUnsupported = known 13 refl refl
+at-known (at.TypeDecodeParameterMissing field) = known 14 refl refl
+at-known (at.TypeDecodeParameterDataTypeInvalid field why) = known 15 refl refl
+at-known at.EventUnknown = known 16 refl refl
+
+pub frame-known : (e : EdmPacketError) → Known (frames.refusalNo e)
+frame-known frame.PacketDecodeFramingInvalid = known 1 refl refl
+frame-known frame.PacketDecodeTargetMemorySizeInvalid = known 2 refl refl
+frame-known frame.PacketTypeDecodeLengthMismatch = known 3 refl refl
+frame-known frame.PayloadTypeUnknown = known 4 refl refl
+frame-known frame.ConnectEventUnsupported = known 5 refl refl
+frame-known frame.ConnectEventDecodeError = known 6 refl refl
+frame-known frame.DisconnectEventDecodeError = known 7 refl refl
+frame-known frame.AtRequestEventDecodeError = known 8 refl refl
+frame-known frame.PacketEncodeTypeUnknown = known 9 refl refl
+frame-known frame.PacketEncodePayloadSizeInvalid = known 10 refl refl
+frame-known (frame.AtPacketError e) = at-known e

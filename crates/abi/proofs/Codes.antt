@@ -15,7 +15,7 @@ use denote.Triple.Clauses.{AtExit}
 use borrow.Fn.Kinds.{Dens, endedOf}
 use Rattle.text.specs.Utf8.{utf8}
 use Rattle.text.proofs.Bools.{either}
-use Rattle.at.specs.Refusal.{OrRefused, good, refused}
+use Rattle.at.specs.Refusal.{no, numberOf, OrRefused, good, refused}
 use Rattle.at.specs.Written.{answerTo}
 use Rattle.at.specs.Line.{readLine}
 use Rattle.at.specs.Binary.{Tried, notBinary, tried, tryRows}
@@ -41,7 +41,7 @@ use Rattle.abi.proofs.mirvoncle_write_resend as write-resend
 -- 0 says that a read was accepted, and any other number is the refusal's
 abbrev pub Says : {A : Type 0} → OrRefused A → ℕ → Type 0
 Says (good a) r = r ≡ 0
-Says (refused n) r = (r ≡ n) × Known n
+Says (refused n) r = (r ≡ numberOf n) × Known (numberOf n)
 
 says : {A : Type 0} (o : OrRefused A) (r : ℕ) → Ok o → r ≡ readCode o → Says o r
 says (good a) r k e = e
@@ -86,7 +86,7 @@ module _ (κs : Lfts 1) (s : RefT (List ℕ)) (r : ℕ) where
 -- the length of the frame, or 65,536 and the refusal's number: a number below 65,536 says that a frame was written
 abbrev pub SaysSent : OrRefused (List ℕ) → ℕ → Type 0
 SaysSent (good f) r = (r ≡ length f) × (6 ≤ r) × (r ≤ 4099)
-SaysSent (refused n) r = (r ≡ 65536 + n) × Known n
+SaysSent (refused n) r = (r ≡ 65536 + numberOf n) × Known (numberOf n)
 
 pub below-sent : (w : OrRefused (List ℕ)) (r : ℕ) → SaysSent w r → r < 65536 → (f : List ℕ) × (w ≡ good f)
 below-sent (good f) r s h = (f, refl)
@@ -95,13 +95,13 @@ below-sent (refused n) r s h = absurd (omega (arith, s .0, h))
 -- a frame that is sent has 6 to 4,099 bytes
 abbrev Sent-ok : OrRefused (List ℕ) → Type 0
 Sent-ok (good f) = (6 ≤ length f) × (length f ≤ 4099)
-Sent-ok (refused n) = Known n
+Sent-ok (refused n) = Known (numberOf n)
 
 sent-ok : (room : ℕ) (k : OrRefused Command) → Ok k → Sent-ok (toSend room k)
 unfolding toSend
 sent-ok room k h = either Sent-ok (ltb room 6) (known 2 refl refl) (go k h)
   where
-    within : (id : ℕ) (t : List ℕ) (l m : Bool) → leb (length t) 4093 ≡ l → Sent-ok (cond (l && m) (good (frameBytes id t)) (refused 10))
+    within : (id : ℕ) (t : List ℕ) (l m : Bool) → leb (length t) 4093 ≡ l → Sent-ok (cond (l && m) (good (frameBytes id t)) (refused (no 10)))
     within id t true true e = let n = frame-length id t in let s = leb-true (length t) 4093 e in (omega arith, omega arith)
     within id t true false e = known 10 refl refl
     within id t false m e = known 10 refl refl

@@ -20,7 +20,7 @@ use Rattle.at.specs.W36.{binaryTable}
 use Rattle.edm.specs.Packet.{identifiers, carried}
 use Rattle.edm.specs.Frame.{readFrame}
 use Rattle.edm.specs.Command.{frame, command, requestOf, toSend}
-use Rattle.abi.specs.Code.{readCode, binaryCode, writeCode}
+use Rattle.abi.specs.Code.{readCode, binaryCode, whyCode, whyBinaryCode, writeCode}
 
 -- a call's number, or the buffer that a write leaves, and what the document says of it
 pub data Example : Type 0 where
@@ -60,6 +60,9 @@ examples =
     ∷ (binaryCode (tryRows binaryTable 0 (bytes "\r\n+UESODB:2" ++ hex "01 00 01 FF")) gives 0)
     ∷ (binaryCode (tryRows binaryTable 0 (bytes "\r\n+UESODB:2")) gives 12)
     ∷ (binaryCode (tryRows binaryTable 0 (bytes "\r\n+UEWSNU\r\n")) gives 255)
+    ∷ (whyCode (readLine w26.w26 0 (bytes "\r\n+UUDPC:1,2,9,a,1,b,2\r\n")) gives 0x04030F)
+    ∷ (whyCode (readLine w26.w26 0 (bytes "\r\n+UUDPC:1,2,1,a\r\n")) gives 0x00050E)
+    ∷ (whyBinaryCode (tryRows binaryTable 0 (bytes "\r\n+UESODB:2,7" ++ hex "01 00 00")) gives 0x02010F)
     ∷ (readCode (readResponse 0 (bytes "\r\n+A\r\nOK\r\n")) gives 0)
     ∷ (readCode (readResponse 0 (bytes "+A")) gives 12)
     ∷ (validUpTo (hex "41 ED A0 80") gives 1)
@@ -74,4 +77,4 @@ examples =
 
 pub all-hold : All examples
 unfolding same startsWith firstOf lastBelow lastOf fieldsFrom digitsFrom under digits signed number table37 seqLen passed validUpTo utf8 insideCharacter readField takeKind takeKinds readRow before endsIn ended framed rowsNamed fieldsAfter byType readText readLine fieldsUpTo readFields findMarker readData readBody tryRows readRest readResponse readResponseBody w26.table w36.table binaryTable identifiers carried readFrame frame toSend
-all-hold = (refl, (refl, (refl, (refl, (refl, (refl, (refl, (refl, (refl, (refl, (refl, (refl, (refl, (refl, (refl, (refl, (refl, (refl, (refl, tt)))))))))))))))))))
+all-hold = (refl, (refl, (refl, (refl, (refl, (refl, (refl, (refl, (refl, (refl, (refl, (refl, (refl, (refl, (refl, (refl, (refl, (refl, (refl, (refl, (refl, (refl, tt))))))))))))))))))))))

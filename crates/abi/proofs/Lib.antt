@@ -1,5 +1,6 @@
+pub mod Numbers
 pub mod CodeLaws
 pub mod OneOutcome
-pub mod Numbers
 pub mod Codes
 pub mod Examples
+pub mod WhyCodes

@@ -1,5 +1,5 @@
 -- Every number with which a read refuses lies from 1 to 16: followed through the definitions of the layers below. Assumes nothing.
-use Prim.Native.Nat.{ℕ, _+_, _-_, _≤_}
+use Prim.Native.Nat.{ℕ, suc, _+_, _-_, _≤_}
 use mathlib.Core.Path.{_≡_, refl}
 use mathlib.Core.List.{List, [], _∷_}
 use mathlib.Core.Bool.{Bool, true, _||_}
@@ -12,7 +12,7 @@ use Rattle.text.specs.Number.{Num, some, none, number}
 use Rattle.text.specs.Field.{Field, field}
 use Rattle.text.specs.Utf8.{utf8, insideCharacter}
 use Rattle.text.proofs.Bools.{either}
-use Rattle.at.specs.Refusal.{OrRefused, good, refused}
+use Rattle.at.specs.Refusal.{Refusal, numberOf, OrRefused, good, refused}
 use Rattle.at.specs.Event.{Kind, bits, text, ipType, btType, protocol, reason, Row, kindsOf, Value, Event, ReadEvent, eventTo, upTo, listed, isProtocol, isReason, readField, Taken, took, andRest, takeKind, Read, values, prepend, andThen, takeKinds, withValues, readRow}
 use Rattle.at.specs.Line.{before, endsIn, Radio, Body, body, ended, framed, rowsNamed, fieldsAfter, orNext, byType, byName, readText, readFramed, readLine}
 use Rattle.at.specs.Binary.{readFields, marker, findMarker, announced, Data, dataAt, readData, withData, readMarked, readBody, Tried, notBinary, tried, prefix, tryRows}
@@ -32,31 +32,31 @@ known n a b = record { least = leb-true 1 n a; most = leb-true n 16 b }
 -- of any answer: where it is refused, its number is known
 abbrev pub Ok : {A : Type 0} → OrRefused A → Type 0
 Ok (good a) = Unit {0}
-Ok (refused n) = Known n
+Ok (refused n) = Known (numberOf n)
 
 -- what hands a refusal on hands its number on
-handed-on : {A B : Type 0} (f : OrRefused A → OrRefused B) → ((a : A) → Ok (f (good a))) → ((n : ℕ) → f (refused n) ≡ refused n) → (o : OrRefused A) → Ok o → Ok (f o)
+handed-on : {A B : Type 0} (f : OrRefused A → OrRefused B) → ((a : A) → Ok (f (good a))) → ((n : Refusal) → f (refused n) ≡ refused n) → (o : OrRefused A) → Ok o → Ok (f o)
 handed-on f g r (good a) h = g a
 handed-on f g r (refused n) h = rw (r n) h
 
 -- the fields of an event
-listed-ok : (f : ℕ → Bool) (m : Num) → Ok (listed f m)
-listed-ok f (some n) = either Ok (f n) tt (known 15 refl refl)
-listed-ok f none = known 15 refl refl
+listed-ok : (i : ℕ) (f : ℕ → Bool) (m : Num) → Ok (listed i f m)
+listed-ok i f (some n) = either Ok (f n) tt (known 15 refl refl)
+listed-ok i f (none why) = known 15 refl refl
 
-field-ok : (k : Kind) (p : ℕ) (b : List ℕ) → Ok (readField k p b)
+field-ok : (i : ℕ) (k : Kind) (p : ℕ) (b : List ℕ) → Ok (readField i k p b)
 unfolding readField
-field-ok (bits w) p b = listed-ok (λ n. true) (number w b)
-field-ok text p b = tt
-field-ok ipType p b = either Ok (same b (bytes "2")) tt (either Ok (same b (bytes "3")) tt (known 13 refl refl))
-field-ok btType p b = either Ok (same b (bytes "1")) tt (known 13 refl refl)
-field-ok protocol p b = listed-ok isProtocol (number 8 b)
-field-ok reason p b = listed-ok isReason (number 8 b)
+field-ok i (bits w) p b = listed-ok i (λ n. true) (number w b)
+field-ok i text p b = tt
+field-ok i ipType p b = either Ok (same b (bytes "2")) tt (either Ok (same b (bytes "3")) tt (known 13 refl refl))
+field-ok i btType p b = either Ok (same b (bytes "1")) tt (known 13 refl refl)
+field-ok i protocol p b = listed-ok i isProtocol (number 8 b)
+field-ok i reason p b = listed-ok i isReason (number 8 b)
 
-kind-ok : (k : Kind) (fs : List Field) → Ok (takeKind k fs)
+kind-ok : (i : ℕ) (k : Kind) (fs : List Field) → Ok (takeKind i k fs)
 unfolding takeKind
-kind-ok k [] = known 14 refl refl
-kind-ok k (field p b ∷ fs) = handed-on (λ v. andRest v fs) (λ v. tt) (λ n. refl) (readField k p b) (field-ok k p b)
+kind-ok i k [] = known 14 refl refl
+kind-ok i k (field p b ∷ fs) = handed-on (λ v. andRest v fs) (λ v. tt) (λ n. refl) (readField i k p b) (field-ok i k p b)
 
 prepend-ok : (v : Value) (r : OrRefused Read) → Ok r → Ok (prepend v r)
 prepend-ok v (good (values vs fs)) h = tt
@@ -66,15 +66,15 @@ then-ok : (t : OrRefused Taken) (more : List Field → OrRefused Read) → Ok t 
 then-ok (good (took v fs)) more h k = prepend-ok v (more fs) (k fs)
 then-ok (refused n) more h k = h
 
-kinds-ok : (ks : List Kind) (fs : List Field) → Ok (takeKinds ks fs)
+kinds-ok : (i : ℕ) (ks : List Kind) (fs : List Field) → Ok (takeKinds i ks fs)
 unfolding takeKinds
-kinds-ok [] fs = tt
-kinds-ok (k ∷ ks) fs = then-ok (takeKind k fs) (λ rest. takeKinds ks rest) (kind-ok k fs) (λ rest. kinds-ok ks rest)
+kinds-ok i [] fs = tt
+kinds-ok i (k ∷ ks) fs = then-ok (takeKind i k fs) (λ rest. takeKinds (suc i) ks rest) (kind-ok i k fs) (λ rest. kinds-ok (suc i) ks rest)
 
 -- an event line
 row-ok : (r : Row) (fs : List Field) → Ok (readRow r fs)
 unfolding readRow
-row-ok r fs = go (takeKinds (kindsOf r) fs) (kinds-ok (kindsOf r) fs)
+row-ok r fs = go (takeKinds 1 (kindsOf r) fs) (kinds-ok 1 (kindsOf r) fs)
   where
     go : (v : OrRefused Read) → Ok v → Ok (withValues r v)
     go (good (values vs rest)) h = tt
@@ -87,7 +87,7 @@ by-type-ok (r ∷ rows) fs = go (readRow r fs) (row-ok r fs) (by-type-ok rows fs
   where
     go : (o : OrRefused Event) → Ok o → Ok (byType rows fs) → Ok (orNext o (byType rows fs))
     go (good e) h k = tt
-    go (refused n) h k = either Ok (eqb n 13) k h
+    go (refused n) h k = either Ok (eqb (numberOf n) 13) k h
 
 by-name-ok : (rows : List Row) (fs : List Field) → Ok (byName rows fs)
 by-name-ok [] fs = known 16 refl refl
@@ -126,7 +126,7 @@ with-data-ok r (refused n) d h k = h
 marked-ok : (r : Row) (p : ℕ) (t : List ℕ) (m : OrRefused ℕ) → Ok m → Ok (readMarked r p t m)
 unfolding readFields
 marked-ok r p t (good k) h =
-    with-data-ok r (readFields r p (take k t)) (readData (p + k + 1) (drop (k + 1) t)) (kinds-ok (kindsOf r) _) (data-ok (p + k + 1) (drop (k + 1) t))
+    with-data-ok r (readFields r p (take k t)) (readData (p + k + 1) (drop (k + 1) t)) (kinds-ok 1 (kindsOf r) _) (data-ok (p + k + 1) (drop (k + 1) t))
 marked-ok r p t (refused n) h = h
 
 abbrev pub Tried-ok : Tried → Type 0

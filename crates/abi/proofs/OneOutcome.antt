@@ -7,6 +7,10 @@ use Rattle.abi.proofs.mirvoncle_w26 as w26
 use Rattle.abi.proofs.mirvoncle_w36 as w36
 use Rattle.abi.proofs.mirvoncle_w36_binary as binary
 use Rattle.abi.proofs.mirvoncle_response as response
+use Rattle.abi.proofs.mirvoncle_frame_why as frame-why
+use Rattle.abi.proofs.mirvoncle_w26_why as w26-why
+use Rattle.abi.proofs.mirvoncle_w36_why as w36-why
+use Rattle.abi.proofs.mirvoncle_w36_binary_why as binary-why
 use Rattle.abi.proofs.mirvoncle_utf8_prefix as utf8-prefix
 use Rattle.abi.proofs.mirvoncle_write_data as write-data
 use Rattle.abi.proofs.mirvoncle_write_request as write-request
@@ -23,6 +27,18 @@ one-w36 κs a x y s t p q = p ∙ sym q
 
 pub one-binary : One 1 binary.Kinds.ps binary.Kinds.r binary.Reads.Post (λ κs x s. x)
 one-binary κs a x y s t p q = p ∙ sym q
+
+pub one-frame-why : One 1 frame-why.Kinds.ps frame-why.Kinds.r frame-why.Reads.Post (λ κs x s. x)
+one-frame-why κs a x y s t p q = p ∙ sym q
+
+pub one-w26-why : One 1 w26-why.Kinds.ps w26-why.Kinds.r w26-why.Reads.Post (λ κs x s. x)
+one-w26-why κs a x y s t p q = p ∙ sym q
+
+pub one-w36-why : One 1 w36-why.Kinds.ps w36-why.Kinds.r w36-why.Reads.Post (λ κs x s. x)
+one-w36-why κs a x y s t p q = p ∙ sym q
+
+pub one-binary-why : One 1 binary-why.Kinds.ps binary-why.Kinds.r binary-why.Reads.Post (λ κs x s. x)
+one-binary-why κs a x y s t p q = p ∙ sym q
 
 pub one-response : One 1 response.Kinds.ps response.Kinds.r response.Reads.Post (λ κs x s. x)
 one-response κs a x y s t p q = p ∙ sym q

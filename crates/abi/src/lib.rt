@@ -1,64 +1,45 @@
 // Calls for programs in C and Rust: the readers and the writer of the layers below, each answer as one number. bindings/ says what a caller owes.
-use at::AtPacketError;
+mod refusal;
+
+use crate::refusal::of_at;
+use crate::refusal::of_frame;
+use crate::refusal::plain;
 use at::response::ResponseAnswer;
 use at::w36::BinaryAnswer;
 use edm::Channel;
-use edm::EdmPacketError;
 use edm::FrameAnswer;
 use edm::WriteAnswer;
 ghost use mathlib.Core.Path.{_≡_};
 ghost use mathlib.Core.List.{[], _∷_};
 ghost use lib.ListN.{length};
 ghost use Rattle.text.specs.Utf8.{validUpTo};
-ghost use Rattle.at.specs.Refusal as at-refusal;
 ghost use Rattle.at.specs.Refusal.{good};
 ghost use Rattle.at.specs.Line.{readLine};
 ghost use Rattle.at.specs.W26.{w26};
 ghost use Rattle.at.specs.W36.{w36, binaryTable};
 ghost use Rattle.at.specs.Binary.{tryRows};
 ghost use Rattle.at.specs.Response.{readResponse};
-ghost use Rattle.edm.specs.Refusal.{refusalNo};
 ghost use Rattle.edm.specs.Frame.{readFrame};
 ghost use Rattle.edm.specs.Command.{command, requestOf, toSend, shown};
-ghost use Rattle.abi.specs.Code.{readCode, binaryCode, writeCode, Sends};
-
-fn at_number(e: AtPacketError) -> u8
-    ensures { λ r. ⌜ r ≡ at-refusal.refusalNo e ⌝ }
-{
-    match e {
-        AtPacketError::Utf8DecodeFailed => 11,
-        AtPacketError::FramingDecodeFailed => 12,
-        AtPacketError::TypeDecodeUnsupported => 13,
-        AtPacketError::TypeDecodeParameterMissing => 14,
-        AtPacketError::TypeDecodeParameterDataTypeInvalid => 15,
-        AtPacketError::EventUnknown => 16,
-    }
-}
-
-fn number(e: EdmPacketError) -> u8
-    ensures { λ r. ⌜ r ≡ refusalNo e ⌝ }
-{
-    match e {
-        EdmPacketError::PacketDecodeFramingInvalid => 1,
-        EdmPacketError::PacketDecodeTargetMemorySizeInvalid => 2,
-        EdmPacketError::PacketTypeDecodeLengthMismatch => 3,
-        EdmPacketError::PayloadTypeUnknown => 4,
-        EdmPacketError::ConnectEventUnsupported => 5,
-        EdmPacketError::ConnectEventDecodeError => 6,
-        EdmPacketError::DisconnectEventDecodeError => 7,
-        EdmPacketError::AtRequestEventDecodeError => 8,
-        EdmPacketError::PacketEncodeTypeUnknown => 9,
-        EdmPacketError::PacketEncodePayloadSizeInvalid => 10,
-        EdmPacketError::AtPacketError(inner) => at_number(inner),
-    }
-}
+ghost use Rattle.abi.specs.Code.{readCode, binaryCode, whyCode, whyBinaryCode, writeCode, Sends};
 
 fn written(a: WriteAnswer) -> usize
     ensures { λ r. ⌜ r ≡ writeCode (shown a) ⌝ }
 {
     match a {
         WriteAnswer::Wrote(n) => n,
-        WriteAnswer::Refused(e) => 65536 + number(e) as usize,
+        WriteAnswer::Refused(e) => 65536 + plain(of_frame(e)) as usize,
+    }
+}
+
+// Each reader has a call that says why it refuses. The plain call keeps the number alone, so that the reader is called at one place.
+#[no_mangle]
+pub extern "C" fn mirvoncle_frame_why(s: &[u8]) -> u32
+    ensures { λ r. ⌜ r ≡ whyCode (readFrame (now (s .entry))) ⌝ }
+{
+    match edm::frame::read(s) {
+        FrameAnswer::Packet(_) => 0,
+        FrameAnswer::Refused(e) => of_frame(e),
     }
 }
 
@@ -66,9 +47,16 @@ fn written(a: WriteAnswer) -> usize
 pub extern "C" fn mirvoncle_frame(s: &[u8]) -> u8
     ensures { λ r. ⌜ r ≡ readCode (readFrame (now (s .entry))) ⌝ }
 {
-    match edm::frame::read(s) {
-        FrameAnswer::Packet(_) => 0,
-        FrameAnswer::Refused(e) => number(e),
+    plain(mirvoncle_frame_why(s))
+}
+
+#[no_mangle]
+pub extern "C" fn mirvoncle_w26_why(s: &[u8]) -> u32
+    ensures { λ r. ⌜ r ≡ whyCode (readLine w26 0 (now (s .entry))) ⌝ }
+{
+    match at::w26::read(s, 0) {
+        at::w26::EventAnswer::Event { event: _, past: _ } => 0,
+        at::w26::EventAnswer::Refused(e) => of_at(e),
     }
 }
 
@@ -76,9 +64,16 @@ pub extern "C" fn mirvoncle_frame(s: &[u8]) -> u8
 pub extern "C" fn mirvoncle_w26(s: &[u8]) -> u8
     ensures { λ r. ⌜ r ≡ readCode (readLine w26 0 (now (s .entry))) ⌝ }
 {
-    match at::w26::read(s, 0) {
-        at::w26::EventAnswer::Event { event: _, past: _ } => 0,
-        at::w26::EventAnswer::Refused(e) => at_number(e),
+    plain(mirvoncle_w26_why(s))
+}
+
+#[no_mangle]
+pub extern "C" fn mirvoncle_w36_why(s: &[u8]) -> u32
+    ensures { λ r. ⌜ r ≡ whyCode (readLine w36 0 (now (s .entry))) ⌝ }
+{
+    match at::w36::read(s, 0) {
+        at::w36::EventAnswer::Event { event: _, past: _ } => 0,
+        at::w36::EventAnswer::Refused(e) => of_at(e),
     }
 }
 
@@ -86,9 +81,17 @@ pub extern "C" fn mirvoncle_w26(s: &[u8]) -> u8
 pub extern "C" fn mirvoncle_w36(s: &[u8]) -> u8
     ensures { λ r. ⌜ r ≡ readCode (readLine w36 0 (now (s .entry))) ⌝ }
 {
-    match at::w36::read(s, 0) {
-        at::w36::EventAnswer::Event { event: _, past: _ } => 0,
-        at::w36::EventAnswer::Refused(e) => at_number(e),
+    plain(mirvoncle_w36_why(s))
+}
+
+#[no_mangle]
+pub extern "C" fn mirvoncle_w36_binary_why(s: &[u8]) -> u32
+    ensures { λ r. ⌜ r ≡ whyBinaryCode (tryRows binaryTable 0 (now (s .entry))) ⌝ }
+{
+    match at::w36::try_parse_binary(s, 0) {
+        BinaryAnswer::Event { event: _, past: _ } => 0,
+        BinaryAnswer::NotBinary => 255,
+        BinaryAnswer::Refused(e) => of_at(e),
     }
 }
 
@@ -96,11 +99,7 @@ pub extern "C" fn mirvoncle_w36(s: &[u8]) -> u8
 pub extern "C" fn mirvoncle_w36_binary(s: &[u8]) -> u8
     ensures { λ r. ⌜ r ≡ binaryCode (tryRows binaryTable 0 (now (s .entry))) ⌝ }
 {
-    match at::w36::try_parse_binary(s, 0) {
-        BinaryAnswer::Event { event: _, past: _ } => 0,
-        BinaryAnswer::NotBinary => 255,
-        BinaryAnswer::Refused(e) => at_number(e),
-    }
+    plain(mirvoncle_w36_binary_why(s))
 }
 
 #[no_mangle]
@@ -109,7 +108,7 @@ pub extern "C" fn mirvoncle_response(s: &[u8]) -> u8
 {
     match at::response::read(s, 0) {
         ResponseAnswer::Response(_) => 0,
-        ResponseAnswer::Refused(e) => at_number(e),
+        ResponseAnswer::Refused(e) => plain(of_at(e)),
     }
 }
 

@@ -18,7 +18,7 @@ use Rattle.text.specs.declared.find.Found.the-variants.{At, Nothing}
 use Rattle.text.proofs.BytesLaws.{starts-length}
 use Rattle.text.proofs.Utf8Joined.{utf8-nil}
 use Rattle.text.proofs.Bools.{either}
-use Rattle.at.specs.Refusal.{OrRefused, good, refused}
+use Rattle.at.specs.Refusal.{no, numberOf, OrRefused, good, refused}
 use Rattle.at.specs.Event.{Kind, bits, text, ipType, btType, protocol, reason, Row, kindsOf, Value, num, place, Event, event, ReadEvent, eventTo, upTo, listed, isProtocol, isReason, readField, Taken, took, andRest, takeKind, Read, values, prepend, andThen, takeKinds, withValues, readRow}
 use Rattle.at.specs.Line.{before, endsIn, Radio, Body, body, framed, rowsNamed, fieldsAfter, orNext, byType, byName, readText, readFramed, readLine}
 use Rattle.at.specs.Binary.{fieldsUpTo, readFields, findMarker, announced, Data, dataAt, readData, withData, readMarked, readBody, Tried, notBinary, tried, prefix, tryRows}
@@ -114,47 +114,47 @@ module _ (n : ℕ) where
 
   -- The values of fields: a number, or the place and the length of its field
 
-  listed-inside : (inList : ℕ → Bool) (x : Num) → IfGood (Inside n) (listed inList x)
-  listed-inside inList (some x) = either (IfGood (Inside n)) (inList x) tt tt
-  listed-inside inList none = tt
+  listed-inside : (i : ℕ) (inList : ℕ → Bool) (x : Num) → IfGood (Inside n) (listed i inList x)
+  listed-inside i inList (some x) = either (IfGood (Inside n)) (inList x) tt tt
+  listed-inside i inList (none why) = tt
 
-  pub field-inside : (k : Kind) (p : ℕ) (b : List ℕ) → p + length b ≤ n → IfGood (Inside n) (readField k p b)
+  pub field-inside : (i : ℕ) (k : Kind) (p : ℕ) (b : List ℕ) → p + length b ≤ n → IfGood (Inside n) (readField i k p b)
   unfolding readField
-  field-inside (bits w) p b h = listed-inside (λ x. true) (number w b)
-  field-inside text p b h = h
-  field-inside ipType p b h =
-      let three : OrRefused Value = cond (same b (bytes "3")) (good (num 3)) (refused 13) in
+  field-inside i (bits w) p b h = listed-inside i (λ x. true) (number w b)
+  field-inside i text p b h = h
+  field-inside i ipType p b h =
+      let three : OrRefused Value = cond (same b (bytes "3")) (good (num 3)) (refused (no 13)) in
       either (IfGood (Inside n)) (same b (bytes "2")) tt (either (IfGood (Inside n)) (same b (bytes "3")) tt tt)
-  field-inside btType p b h = either (IfGood (Inside n)) (same b (bytes "1")) tt tt
-  field-inside protocol p b h = listed-inside isProtocol (number 8 b)
-  field-inside reason p b h = listed-inside isReason (number 8 b)
+  field-inside i btType p b h = either (IfGood (Inside n)) (same b (bytes "1")) tt tt
+  field-inside i protocol p b h = listed-inside i isProtocol (number 8 b)
+  field-inside i reason p b h = listed-inside i isReason (number 8 b)
 
-  pub kind-inside : (k : Kind) (fs : List Field) → FieldsInside n fs → IfGood (TakenInside n) (takeKind k fs)
+  pub kind-inside : (i : ℕ) (k : Kind) (fs : List Field) → FieldsInside n fs → IfGood (TakenInside n) (takeKind i k fs)
   unfolding takeKind
-  kind-inside k [] h = tt
-  kind-inside k (field p b ∷ fs) h = go (readField k p b) (field-inside k p b (h .0))
+  kind-inside i k [] h = tt
+  kind-inside i k (field p b ∷ fs) h = go (readField i k p b) (field-inside i k p b (h .0))
     where
       go : (v : OrRefused Value) → IfGood (Inside n) v → IfGood (TakenInside n) (andRest v fs)
-      go (good v) i = (i, h .1)
-      go (refused m) i = tt
+      go (good v) j = (j, h .1)
+      go (refused m) j = tt
 
-  pub kinds-inside : (ks : List Kind) (fs : List Field) → FieldsInside n fs → IfGood (ValuesInside n) (takeKinds ks fs)
+  pub kinds-inside : (i : ℕ) (ks : List Kind) (fs : List Field) → FieldsInside n fs → IfGood (ValuesInside n) (takeKinds i ks fs)
   unfolding takeKinds
-  kinds-inside [] fs h = (tt, h)
-  kinds-inside (k ∷ ks) fs h = go (takeKind k fs) (kind-inside k fs h) (kinds-inside ks)
+  kinds-inside i [] fs h = (tt, h)
+  kinds-inside i (k ∷ ks) fs h = go (takeKind i k fs) (kind-inside i k fs h) (kinds-inside (suc i) ks)
     where
       more : (v : Value) (o : OrRefused Read) → Inside n v → IfGood (ValuesInside n) o → IfGood (ValuesInside n) (prepend v o)
       more v (good (values vs rest)) i j = ((i, j .0), j .1)
       more v (refused m) i j = tt
 
-      go : (t : OrRefused Taken) → IfGood (TakenInside n) t → ((rest : List Field) → FieldsInside n rest → IfGood (ValuesInside n) (takeKinds ks rest))
-          → IfGood (ValuesInside n) (andThen t (λ rest. takeKinds ks rest))
-      go (good (took v rest)) i ih = more v (takeKinds ks rest) (i .0) (ih rest (i .1))
-      go (refused m) i ih = tt
+      go : (t : OrRefused Taken) → IfGood (TakenInside n) t → ((rest : List Field) → FieldsInside n rest → IfGood (ValuesInside n) (takeKinds (suc i) ks rest))
+          → IfGood (ValuesInside n) (andThen t (λ rest. takeKinds (suc i) ks rest))
+      go (good (took v rest)) j ih = more v (takeKinds (suc i) ks rest) (j .0) (ih rest (j .1))
+      go (refused m) j ih = tt
 
   pub row-inside : (r : Row) (fs : List Field) → FieldsInside n fs → IfGood (EventInside n) (readRow r fs)
   unfolding readRow
-  row-inside r fs h = go (takeKinds (kindsOf r) fs) (kinds-inside (kindsOf r) fs h)
+  row-inside r fs h = go (takeKinds 1 (kindsOf r) fs) (kinds-inside 1 (kindsOf r) fs h)
     where
       go : (o : OrRefused Read) → IfGood (ValuesInside n) o → IfGood (EventInside n) (withValues r o)
       go (good (values vs rest)) i = i .0
@@ -169,7 +169,7 @@ module _ (n : ℕ) where
     where
       go : (o : OrRefused Event) → IfGood (EventInside n) o → IfGood (EventInside n) (byType rs fs) → IfGood (EventInside n) (orNext o (byType rs fs))
       go (good e) i j = i
-      go (refused m) i j = either (IfGood (EventInside n)) (eqb m 13) j tt
+      go (refused m) i j = either (IfGood (EventInside n)) (eqb (numberOf m) 13) j tt
 
   by-name-inside : (rows : List Row) (fs : List Field) → FieldsInside n fs → IfGood (EventInside n) (byName rows fs)
   by-name-inside [] fs h = tt
@@ -203,7 +203,7 @@ module _ (n : ℕ) where
   binary-data-inside p t h = go (leb 2 (length t)) refl (leb (announced t) (length t - 2)) refl
     where
       go : (k : Bool) → leb 2 (length t) ≡ k → (l : Bool) → leb (announced t) (length t - 2) ≡ l
-          → IfGood (DataInside n) (cond k (cond l (good (dataAt (p + 2) (announced t))) (refused 12)) (refused 12))
+          → IfGood (DataInside n) (cond k (cond l (good (dataAt (p + 2) (announced t))) (refused (no 12))) (refused (no 12)))
       go true k true l = omega (arith, leb-true 2 (length t) k, leb-true (announced t) (length t - 2) l)
       go true k false l = tt
       go false k l m = tt
@@ -223,7 +223,7 @@ module _ (n : ℕ) where
           let i = marked-inside t 0 m in
           let l = up-to-inside (length (kindsOf r) - 1) p (take k t) (omega (arith, length-take k t)) in
           let d = binary-data-inside (p + k + 1) (drop (k + 1) t) (omega (arith, length-drop (k + 1) t)) in
-          with-data r (readFields r p (take k t)) (readData (p + k + 1) (drop (k + 1) t)) (kinds-inside (kindsOf r) (fieldsUpTo (length (kindsOf r) - 1) p (take k t)) l) d
+          with-data r (readFields r p (take k t)) (readData (p + k + 1) (drop (k + 1) t)) (kinds-inside 1 (kindsOf r) (fieldsUpTo (length (kindsOf r) - 1) p (take k t)) l) d
       go (refused k) m = tt
 
   pub rows-inside : (rows : List Row) (p : ℕ) (s : List ℕ) → p + length s ≤ n → TriedInside n (tryRows rows p s)
@@ -262,7 +262,7 @@ module _ (n : ℕ) where
       t = drop (i + 2) s
 
       go : (u k x : Bool) → endsIn t crlf ≡ x
-          → IfGood (ResponseInside n) (cond u (cond k (cond x (good (readResponseBody (p + i + 2) (take (length t - 2) t))) (refused 12)) (refused 12)) (refused 11))
+          → IfGood (ResponseInside n) (cond u (cond k (cond x (good (readResponseBody (p + i + 2) (take (length t - 2) t))) (refused (no 12))) (refused (no 12))) (refused (no 11)))
       go true true true x =
           response-body (p + i + 2) (take (length t - 2) t) (omega (arith, ends-long t x, length-take (length t - 2) t, length-drop (i + 2) s))
       go true true false x = tt
@@ -271,7 +271,7 @@ module _ (n : ℕ) where
 
 -- What follows a place of s: where that place lies past the end nothing follows it, and nothing is read
 
-pub line-none : (radio : Radio) (p : ℕ) → readLine radio p [] ≡ refused 12
+pub line-none : (radio : Radio) (p : ℕ) → readLine radio p [] ≡ refused (no 12)
 unfolding readLine framed
 line-none radio p = rw utf8-nil
 
@@ -280,7 +280,7 @@ unfolding tryRows startsWith
 rows-none [] p = refl
 rows-none (r ∷ rows) p = rows-none rows p
 
-pub response-none : (p : ℕ) → readResponse p [] ≡ refused 12
+pub response-none : (p : ℕ) → readResponse p [] ≡ refused (no 12)
 unfolding readResponse firstOf
 response-none p = rw utf8-nil
 

@@ -6,6 +6,7 @@ pub mod TypeLaws
 pub mod TakeLaws
 pub mod NameLaws
 pub mod TableLaws
+pub mod WhyLaws
 pub mod PartsLaws
 pub mod TableTests
 pub mod EndLaws
@@ -22,6 +23,7 @@ pub mod WalkAnswers
 pub mod WalkRuns
 pub mod OneOutcome
 pub mod InsidePrograms
+pub mod WhyPrograms
 pub mod WrongReaders
 pub mod WrongWalks
 pub mod Examples

@@ -13,7 +13,7 @@ use Rattle.text.specs.Bytes.{same}
 use Rattle.text.specs.Field.{Field}
 use Rattle.text.proofs.BytesLaws.{same-equal}
 use Rattle.text.proofs.Bools.{and-left, and-right}
-use Rattle.at.specs.Refusal.{OrRefused, good, refused}
+use Rattle.at.specs.Refusal.{Refusal, no, missing, invalid, numberOf, OrRefused, good, refused}
 use Rattle.at.specs.Event.{Row, nameOf, Event, readRow}
 use Rattle.at.specs.Line.{rowsNamed, orNext, byType, byName}
 use Rattle.at.specs.Parts.{rowNo}
@@ -96,27 +96,29 @@ module _ (P : Row → Type 0) (fs : List Field) (e : Event) where
   by-one [] h f = let z : _≡_ {A = ℕ} 0 1 = cc in absurd (eqb-false 0 1 refl z)
   by-one (r ∷ rs) h f = go (readRow r fs) refl f (by-one rs (h .1))
     where
-      more : (k : Bool) (n : ℕ) → cond k (byType rs fs) (refused n) ≡ good e → byType rs fs ≡ good e
+      more : (k : Bool) (n : Refusal) → cond k (byType rs fs) (refused n) ≡ good e → byType rs fs ≡ good e
       more true n f = f
       more false n f = let z : _≡_ {A = ℕ} 0 1 = cc in absurd (eqb-false 0 1 refl z)
 
       go : (o : OrRefused Event) → readRow r fs ≡ o → orNext o (byType rs fs) ≡ good e
           → (byType rs fs ≡ good e → (r : Row) × P r × (readRow r fs ≡ good e)) → (r : Row) × P r × (readRow r fs ≡ good e)
       go (good d) o f ih = (r, h .0, o ∙ f)
-      go (refused n) o f ih = ih (more (eqb n 13) n f)
+      go (refused n) o f ih = ih (more (eqb (numberOf n) 13) n f)
 
   pub read-by-one : (rows : List Row) → Each P rows → byName rows fs ≡ good e → (r : Row) × P r × (readRow r fs ≡ good e)
   read-by-one [] h f = let z : _≡_ {A = ℕ} 0 1 = cc in absurd (eqb-false 0 1 refl z)
   read-by-one (r ∷ rs) h f = by-one (r ∷ rs) h f
 
 -- the last row decides alone
-pub last-decides : (o : OrRefused Event) → orNext o (refused 13) ≡ o
+pub last-decides : (o : OrRefused Event) → orNext o (refused (no 13)) ≡ o
 last-decides (good e) = refl
-last-decides (refused n) = go (eqb n 13) refl
+last-decides (refused (no n)) = go (eqb n 13) refl
   where
-    go : (k : Bool) → eqb n 13 ≡ k → cond {A = OrRefused Event} k (refused 13) (refused n) ≡ refused n
-    go true e = ap refused (sym (eqb-true n 13 e))
+    go : (k : Bool) → eqb n 13 ≡ k → cond {A = OrRefused Event} k (refused (no 13)) (refused (no n)) ≡ refused (no n)
+    go true e = rw (eqb-true n 13 e)
     go false e = refl
+last-decides (refused (missing i)) = refl
+last-decides (refused (invalid i why)) = refl
 
 pub alone-decides : (r : Row) (fs : List Field) → byType (r ∷ []) fs ≡ readRow r fs
 unfolding byType

@@ -14,7 +14,7 @@ use Rattle.text.specs.Bytes.{bytes, same, part}
 use Rattle.text.specs.Field.{Field as Part}
 use Rattle.text.proofs.Bools.{and-left, and-right}
 use Rattle.at.specs.Event.{Row, nameOf, kindsOf as rowKinds, Read, values, withValues, takeKinds, readRow}
-use Rattle.at.specs.Refusal.{OrRefused, good, refused, refusalNo}
+use Rattle.at.specs.Refusal.{no, OrRefused, good, refused, refusalOf}
 use Rattle.at.specs.Table.{lettersOf, filled, spelledRow, spelled, nameAt, lettersAt}
 use Rattle.at.specs.Parts.{rowNo}
 use Rattle.at.specs.TableSteps.{roomy, Tabled}
@@ -54,7 +54,7 @@ rest-spelled (r ∷ rs) (suc i) =
     rw (e, ← drop-drop (i * 20) 20 (spelledRow r ++ spelled rs), drop-at (spelledRow r) (spelled rs) 20 (row-length r)) (rest-spelled rs i)
 
 -- the row with a number, and the rows from it on
-pub no-row : (rows : List Row) (i : ℕ) → length rows ≤ i → rowNo rows i ≡ refused 16
+pub no-row : (rows : List Row) (i : ℕ) → length rows ≤ i → rowNo rows i ≡ refused (no 16)
 unfolding rowNo
 no-row [] i h = refl
 no-row (r ∷ rs) zero h = absurd (not-suc-le-zero h)
@@ -85,7 +85,7 @@ pub record Stands (s : List ℕ) (i : ℕ) (r : Row) : Type 0 where
   pub name : part s (i * 20 + 2) (length (nameOf r)) ≡ nameOf r
   pub letters : take 7 (drop (i * 20 + 13) s) ≡ filled 7 (lettersOf r)
 
-rooms : (rows : List Row) (i : ℕ) (r : Row) → roomy rows ≡ true → rowNo rows i ≡ good r → (length (nameOf r) ≤ 11) × (length (lettersOf r) ≤ 7)
+pub rooms : (rows : List Row) (i : ℕ) (r : Row) → roomy rows ≡ true → rowNo rows i ≡ good r → (length (nameOf r) ≤ 11) × (length (lettersOf r) ≤ 7)
 unfolding rowNo roomy
 rooms [] i r t e = let z : _≡_ {A = ℕ} 0 1 = cc in absurd (eqb-false 0 1 refl z)
 rooms (q ∷ rs) zero r t e =
@@ -194,13 +194,13 @@ took-outcome rows row q r ns p e k = go p r k
     go stop.Nowhere (good (values vs fs)) s = let v : valuesOf (rowKinds q) 0 (fieldsIn ns) ≡ vs = cc in rw (e, v)
     go stop.Nowhere (refused n) s = let z : _≡_ {A = ℕ} 0 1 = cc in absurd (eqb-false 0 1 refl z)
     go (stop.Refused x) (good (values vs fs)) s = let z : _≡_ {A = ℕ} 0 1 = cc in absurd (eqb-false 0 1 refl z)
-    go (stop.Refused x) (refused n) s = let m : refusalNo x ≡ n = cc in rw m
+    go (stop.Refused x) (refused n) s = let m : refusalOf x ≡ n = cc in rw m
 
 -- the fields taken by the letters of a row are those that the definition reads
 pub outcome-read : (rows : List Row) (e : Entry) (fs : List Part) (ns : List ℕ) (p : Stop) → e .row < length rows → Legible rows → Lettered rows e
-    → Took (kindsOf (e .kinds)) (takeKinds (kindsOf (e .kinds)) fs) ns p → outcomeBy rows (record { row = e .row; fields = fieldsIn ns }) p ≡ readFound (rowNo rows (e .row)) fs
+    → Took (kindsOf (e .kinds)) (takeKinds 1 (kindsOf (e .kinds)) fs) ns p → outcomeBy rows (record { row = e .row; fields = fieldsIn ns }) p ≡ readFound (rowNo rows (e .row)) fs
 unfolding readRow
 outcome-read rows e fs ns p h l m took =
     let q = row-listed rows (e .row) h in
     let c : kindsOf (e .kinds) ≡ rowKinds (q .0) = ap kindsIn (m .1 ∙ ap lettersIn (q .1)) ∙ legible-row rows (e .row) (q .0) l (q .1) in
-    took-outcome rows (e .row) (q .0) (takeKinds (rowKinds (q .0)) fs) ns p (q .1) (rw c at took) ∙ rw (q .1)
+    took-outcome rows (e .row) (q .0) (takeKinds 1 (rowKinds (q .0)) fs) ns p (q .1) (rw c at took) ∙ rw (q .1)

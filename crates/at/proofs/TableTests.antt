@@ -32,6 +32,10 @@ pub roomy-w36 : (roomy w36.table ≡ true) × (roomy w36.rows36 ≡ true) × (ro
 unfolding roomy w36.table w36.binaryTable w36.rows36
 roomy-w36 = (refl, refl, refl, refl)
 
+pub roomy-binary : roomy w36.binaryTable ≡ true
+unfolding roomy w36.binaryTable
+roomy-binary = refl
+
 pub rows-w36 : length w36.table ≡ 13
 unfolding w36.table
 rows-w36 = refl

@@ -12,7 +12,7 @@ use Rattle.text.specs.Field.{Field as Part, nextField}
 use Rattle.text.specs.FieldSteps.{left}
 use Rattle.text.specs.declared.field.Fields.{Fields}
 use Rattle.text.specs.declared.field.Next.the-variants as next
-use Rattle.at.specs.Refusal.{OrRefused, good, refused}
+use Rattle.at.specs.Refusal.{Refusal, missing, OrRefused, good, refused}
 use Rattle.at.specs.Event.{Value, readField, Read, values, prepend, takeKinds}
 use Rattle.at.specs.Steps.{kindOf, kindsIn, noField, valueOf, valuesOf, withoutRest, fieldIn, fieldsFrom, fieldsIn}
 use Rattle.at.specs.declared.field.Field.{Field}
@@ -31,7 +31,7 @@ ahead-snoc : (vs : List Value) (v : Value) (r : OrRefused Read) → ahead (vs ++
 ahead-snoc [] v r = refl
 ahead-snoc (u ∷ vs) v r = ap (prepend u) (ahead-snoc vs v r)
 
-pub ahead-refused : (vs : List Value) (n : ℕ) → ahead vs (refused n) ≡ refused n
+pub ahead-refused : (vs : List Value) (n : Refusal) → ahead vs (refused n) ≡ refused n
 ahead-refused [] n = refl
 ahead-refused (v ∷ vs) n = rw (ahead-refused vs n)
 
@@ -60,29 +60,29 @@ values-more ks i fs f h l =
 
 -- what is left to take, by what the walk finds
 module _ (ks : List ℕ) (i : ℕ) (s : List ℕ) (w : Fields) (h : i < length ks) where
-  pub take-missing : nextField s w ≡ next.Done → takeKinds (kindsIn (drop i ks)) (left s w) ≡ refused 14
+  pub take-missing : nextField s w ≡ next.Done → takeKinds (suc i) (kindsIn (drop i ks)) (left s w) ≡ refused (missing (suc i))
   unfolding takeKinds
-  take-missing e = rw (drop-cons ks i 0 h, no-field (kindOf (getD ks i 0)) s w e)
+  take-missing e = rw (drop-cons ks i 0 h, no-field (suc i) (kindOf (getD ks i 0)) s w e)
 
   module _ (start len : ℕ) (rest : Fields) (e : nextField s w ≡ next.Field start len rest) where
-    pub take-refused : (n : ℕ) → readField (kindOf (getD ks i 0)) start (part s start len) ≡ refused n → takeKinds (kindsIn (drop i ks)) (left s w) ≡ refused n
+    pub take-refused : (n : Refusal) → readField (suc i) (kindOf (getD ks i 0)) start (part s start len) ≡ refused n → takeKinds (suc i) (kindsIn (drop i ks)) (left s w) ≡ refused n
     unfolding takeKinds
-    take-refused n r = rw (drop-cons ks i 0 h, some-field (kindOf (getD ks i 0)) s w e, r)
+    take-refused n r = rw (drop-cons ks i 0 h, some-field (suc i) (kindOf (getD ks i 0)) s w e, r)
 
-    take-one : (v : Value) → readField (kindOf (getD ks i 0)) start (part s start len) ≡ good v
-        → takeKinds (kindsIn (drop i ks)) (left s w) ≡ prepend v (takeKinds (kindsIn (drop (suc i) ks)) (left s rest))
+    take-one : (v : Value) → readField (suc i) (kindOf (getD ks i 0)) start (part s start len) ≡ good v
+        → takeKinds (suc i) (kindsIn (drop i ks)) (left s w) ≡ prepend v (takeKinds (suc (suc i)) (kindsIn (drop (suc i) ks)) (left s rest))
     unfolding takeKinds
-    take-one v r = rw (drop-cons ks i 0 h, some-field (kindOf (getD ks i 0)) s w e, r)
+    take-one v r = rw (drop-cons ks i 0 h, some-field (suc i) (kindOf (getD ks i 0)) s w e, r)
 
-    pub one-more : (fs : List Field) (f : Field) → i < length fs → readField (kindOf (getD ks i 0)) start (part s start len) ≡ good (valueOf (kindOf (getD ks i 0)) f)
-        → ahead (valuesOf (kindsIn (take i ks)) 0 fs) (takeKinds (kindsIn (drop i ks)) (left s w))
-        ≡ ahead (valuesOf (kindsIn (take (i + 1) ks)) 0 (set fs i f)) (takeKinds (kindsIn (drop (i + 1) ks)) (left s rest))
+    pub one-more : (fs : List Field) (f : Field) → i < length fs → readField (suc i) (kindOf (getD ks i 0)) start (part s start len) ≡ good (valueOf (kindOf (getD ks i 0)) f)
+        → ahead (valuesOf (kindsIn (take i ks)) 0 fs) (takeKinds (suc i) (kindsIn (drop i ks)) (left s w))
+        ≡ ahead (valuesOf (kindsIn (take (i + 1) ks)) 0 (set fs i f)) (takeKinds (suc (i + 1)) (kindsIn (drop (i + 1) ks)) (left s rest))
     one-more fs f l r =
         rw (take-one (valueOf (kindOf (getD ks i 0)) f) r, add-one i, values-more ks i fs f h l)
-        (sym (ahead-snoc (valuesOf (kindsIn (take i ks)) 0 fs) (valueOf (kindOf (getD ks i 0)) f) (takeKinds (kindsIn (drop (suc i) ks)) (left s rest))))
+        (sym (ahead-snoc (valuesOf (kindsIn (take i ks)) 0 fs) (valueOf (kindOf (getD ks i 0)) f) (takeKinds (suc (suc i)) (kindsIn (drop (suc i) ks)) (left s rest))))
 
 pub all-taken : (ks : List ℕ) (i : ℕ) (fs : List Field) (ps : List Part) → length ks ≤ i
-    → withoutRest (ahead (valuesOf (kindsIn (take i ks)) 0 fs) (takeKinds (kindsIn (drop i ks)) ps)) ≡ good (values (valuesOf (kindsIn ks) 0 fs) [])
+    → withoutRest (ahead (valuesOf (kindsIn (take i ks)) 0 fs) (takeKinds (suc i) (kindsIn (drop i ks)) ps)) ≡ good (values (valuesOf (kindsIn ks) 0 fs) [])
 unfolding takeKinds
 all-taken ks i fs ps h = rw (take-all i ks h, drop-of-length-le ks h, ahead-values (valuesOf (kindsIn ks) 0 fs) ps)
 

@@ -1,13 +1,13 @@
 -- A run of `next` over one buffer, as a caller's loop makes it: each step is asked of the walk that the step before it handed out, up to the end or to a
 -- refusal. Whatever the steps answer, together they are the walk that the definitions give: by the contract of `next` itself. Assumes nothing.
 use Prim.Native.Nat.{ℕ}
-use mathlib.Core.Path.{_≡_, ap, _∙_}
+use mathlib.Core.Path.{_≡_, ap}
 use mathlib.Core.List.{List, [], _∷_}
 use contract.Lifetimes.{Lfts}
 use denote.Ref.{RefT}
 use denote.Triple.Clauses.{AtExit}
 use borrow.Fn.Kinds.{endedOf}
-use Rattle.at.specs.Refusal.{refusalNo}
+use Rattle.at.specs.Refusal.{refusalOf}
 use Rattle.at.specs.W36.{eventOf}
 use Rattle.at.specs.Walk.{Walk, eventThen, thenEnd, thenRefused, walkAt}
 use Rattle.at.specs.declared.walk.EventWalk.{EventWalk}
@@ -21,7 +21,7 @@ abbrev pub reported : List EventStep → Walk
 reported [] = thenEnd
 reported (step.Event e rest ∷ xs) = eventThen (eventOf e) (rest .at) (reported xs)
 reported (step.End ∷ xs) = thenEnd
-reported (step.Refused e p ∷ xs) = thenRefused (refusalNo e) p
+reported (step.Refused e p ∷ xs) = thenRefused (refusalOf e) p
 
 module _ (κs : Lfts 1) (s : RefT (List ℕ)) where
   -- what `next` may answer to a walk

@@ -3,7 +3,7 @@ use Prim.Native.Nat.{ℕ, zero, suc, _<_}
 use mathlib.Core.Path.{_≡_}
 use mathlib.Core.List.{List, [], _∷_}
 use lib.ListN.{length, take, getD}
-use Rattle.at.specs.Refusal.{OrRefused, good, refused}
+use Rattle.at.specs.Refusal.{OrRefused, good, refused, no}
 use Rattle.at.specs.Event.{Row, Value, num, place, at, Event, event}
 use Rattle.at.specs.declared.parts.Value as value
 use Rattle.at.specs.declared.parts.Parts.{Parts}
@@ -20,7 +20,7 @@ valuesOf p =
 
 -- the row with a number, counted from 0; a number that no row has is no event (16)
 unfoldable pub rowNo : List Row → ℕ → OrRefused Row
-rowNo [] i = refused 16
+rowNo [] i = refused (no 16)
 rowNo (r ∷ rs) zero = good r
 rowNo (r ∷ rs) (suc i) = rowNo rs i
 

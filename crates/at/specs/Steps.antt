@@ -6,7 +6,7 @@ use mathlib.Core.List.{List, [], _∷_, map}
 use mathlib.Core.Bool.{Bool, false, cond}
 use lib.Dec.{eqb}
 use lib.ListN.{length, take, drop, getD}
-use Rattle.at.specs.Refusal.{OrRefused, good, refused, refusalNo}
+use Rattle.at.specs.Refusal.{no, invalid, OrRefused, good, refused, refusalOf, refusalNo}
 use Rattle.text.specs.Field.{Field as Part}
 use Rattle.at.specs.Event.{Kind, bits, text, ipType, btType, protocol, reason, Row, kindsOf as rowKinds, Value, num, place, at, Event, event, Read, values, readRow}
 use Rattle.at.specs.Line.{Body, body, rowsNamed, byType}
@@ -62,9 +62,11 @@ unfoldable pub valuesOf : List Kind → ℕ → List Field → List Value
 valuesOf [] i fs = []
 valuesOf (k ∷ ks) i fs = valueOf k (getD fs i noField) ∷ valuesOf ks (suc i) fs
 
-abbrev pub oneOf : Kind → answer.FieldAnswer → OrRefused Value
-oneOf k (answer.the-variants.Got f) = good (valueOf k f)
-oneOf k (answer.the-variants.Refused e) = refused (refusalNo e)
+-- what the field i, of a kind, is read as
+abbrev pub oneOf : ℕ → Kind → answer.FieldAnswer → OrRefused Value
+oneOf i k (answer.the-variants.Got f) = good (valueOf k f)
+oneOf i k answer.the-variants.Unsupported = refused (no 13)
+oneOf i k (answer.the-variants.Invalid why) = refused (invalid i why)
 
 -- what a row's fields are read as: their values, with any fields after them, or what stopped it
 abbrev pub withoutRest : OrRefused Read → OrRefused Read
@@ -73,7 +75,7 @@ withoutRest (refused n) = refused n
 
 abbrev pub stopped : List Value → stop.Stop → OrRefused Read
 stopped vs stop.the-variants.Nowhere = good (values vs [])
-stopped vs (stop.the-variants.Refused e) = refused (refusalNo e)
+stopped vs (stop.the-variants.Refused e) = refused (refusalOf e)
 
 -- the fields that numbers hold, two for each
 abbrev pub fieldIn : List ℕ → ℕ → Field
@@ -93,20 +95,20 @@ Took ks r ns p = stopped (valuesOf ks 0 (fieldsIn ns)) p ≡ withoutRest r
 -- the framing of a line of s
 abbrev pub framedOf : List ℕ → framed.Framed → OrRefused Body
 framedOf s (framed.the-variants.Body start end) = good (body start (drop start (take end s)))
-framedOf s (framed.the-variants.Refused e) = refused (refusalNo e)
+framedOf s (framed.the-variants.Refused e) = refused (refusalOf e)
 
 -- the parts of a binary event
 abbrev pub markedOf : mark.Marked → OrRefused ℕ
 markedOf (mark.the-variants.After n) = good n
-markedOf (mark.the-variants.Refused e) = refused (refusalNo e)
+markedOf (mark.the-variants.Refused e) = refused (refusalOf e)
 
 abbrev pub dataOf : data·.Data → OrRefused Data
 dataOf (data·.the-variants.Got t) = good (dataAt (t .start) (t .len))
-dataOf (data·.the-variants.Refused e) = refused (refusalNo e)
+dataOf (data·.the-variants.Refused e) = refused (refusalOf e)
 
 abbrev pub addressOf : address.AddressFields → OrRefused Read
 addressOf (address.the-variants.Got n ip port) = good (values (num n ∷ at ip ∷ num port ∷ []) [])
-addressOf (address.the-variants.Refused e) = refused (refusalNo e)
+addressOf (address.the-variants.Refused e) = refused (refusalOf e)
 
 -- the kind that a letter of a row stands for, and those of its letters
 unfoldable pub kindOf : ℕ → Kind
@@ -163,7 +165,7 @@ eventBy rows t = withFields (rowNo rows (t .row)) (t .fields)
 
 abbrev pub orStopped : OrRefused Event → stop.Stop → OrRefused Event
 orStopped o stop.the-variants.Nowhere = o
-orStopped o (stop.the-variants.Refused e) = refused (refusalNo e)
+orStopped o (stop.the-variants.Refused e) = refused (refusalOf e)
 
 abbrev pub outcomeBy : List Row → Taken → stop.Stop → OrRefused Event
 outcomeBy rows t p = orStopped (eventBy rows t) p

@@ -2,6 +2,7 @@
 // number of 8 bits, `w` of 16, `l` of 32, `i` the type of an IP peer, `t` of a Bluetooth peer, `p` a protocol, `r` a reason, and any other letter a
 // text.
 use crate::AtPacketError;
+use crate::FieldError;
 use crate::table::Kinds;
 use text::bytes::part;
 use text::bytes::same;
@@ -15,7 +16,7 @@ use text::number::read16;
 use text::number::read32;
 use text::walk::field_at;
 ghost use mathlib.Core.Path.{_≡_};
-ghost use Prim.Native.Nat.{ℕ, _<_};
+ghost use Prim.Native.Nat.{ℕ, _+_, _<_};
 ghost use lib.ListN.{length};
 ghost use Rattle.text.specs.FieldSteps.{left};
 ghost use Rattle.at.specs.Event.{readField, takeKinds, bits, ipType, btType, protocol, reason};
@@ -27,9 +28,11 @@ pub(crate) struct Field {
     pub len: usize,
 }
 
+// What one field is read as, whichever field it is.
 enum FieldAnswer {
     Got(Field),
-    Refused(AtPacketError),
+    Unsupported,
+    Invalid(FieldError),
 }
 
 fn number(value: usize) -> FieldAnswer
@@ -39,39 +42,35 @@ fn number(value: usize) -> FieldAnswer
 }
 
 fn byte_field(field: &[u8]) -> FieldAnswer
-    ensures { λ r. ⌜ ((p : ℕ) → oneOf (bits 8) r ≡ readField (bits 8) p (now (field .entry))) ⌝ }
+    ensures { λ r. ⌜ ((i p : ℕ) → oneOf i (bits 8) r ≡ readField i (bits 8) p (now (field .entry))) ⌝ }
 {
     match read8(field) {
         Number8::Value(n) => number(n as usize),
-        Number8::Refused => FieldAnswer::Refused(AtPacketError::TypeDecodeParameterDataTypeInvalid),
+        Number8::Refused(e) => FieldAnswer::Invalid(FieldError::NoNumber(e)),
     }
 }
 
 fn word_field(field: &[u8]) -> FieldAnswer
-    ensures { λ r. ⌜ ((p : ℕ) → oneOf (bits 16) r ≡ readField (bits 16) p (now (field .entry))) ⌝ }
+    ensures { λ r. ⌜ ((i p : ℕ) → oneOf i (bits 16) r ≡ readField i (bits 16) p (now (field .entry))) ⌝ }
 {
     match read16(field) {
         Number16::Value(n) => number(n as usize),
-        Number16::Refused => FieldAnswer::Refused(
-            AtPacketError::TypeDecodeParameterDataTypeInvalid,
-        ),
+        Number16::Refused(e) => FieldAnswer::Invalid(FieldError::NoNumber(e)),
     }
 }
 
 fn long_field(field: &[u8]) -> FieldAnswer
-    ensures { λ r. ⌜ ((p : ℕ) → oneOf (bits 32) r ≡ readField (bits 32) p (now (field .entry))) ⌝ }
+    ensures { λ r. ⌜ ((i p : ℕ) → oneOf i (bits 32) r ≡ readField i (bits 32) p (now (field .entry))) ⌝ }
 {
     match read32(field) {
         Number32::Value(n) => number(n as usize),
-        Number32::Refused => FieldAnswer::Refused(
-            AtPacketError::TypeDecodeParameterDataTypeInvalid,
-        ),
+        Number32::Refused(e) => FieldAnswer::Invalid(FieldError::NoNumber(e)),
     }
 }
 
 // The type of an IP peer: exactly `2` or `3`.
 fn ip_type_field(field: &[u8]) -> FieldAnswer
-    ensures { λ r. ⌜ ((p : ℕ) → oneOf ipType r ≡ readField ipType p (now (field .entry))) ⌝ }
+    ensures { λ r. ⌜ ((i p : ℕ) → oneOf i ipType r ≡ readField i ipType p (now (field .entry))) ⌝ }
 {
     if same(field, b"2") {
         return number(2);
@@ -79,48 +78,48 @@ fn ip_type_field(field: &[u8]) -> FieldAnswer
     if same(field, b"3") {
         return number(3);
     }
-    FieldAnswer::Refused(AtPacketError::TypeDecodeUnsupported)
+    FieldAnswer::Unsupported
 }
 
 // The type of a Bluetooth peer: exactly `1`.
 fn bt_type_field(field: &[u8]) -> FieldAnswer
-    ensures { λ r. ⌜ ((p : ℕ) → oneOf btType r ≡ readField btType p (now (field .entry))) ⌝ }
+    ensures { λ r. ⌜ ((i p : ℕ) → oneOf i btType r ≡ readField i btType p (now (field .entry))) ⌝ }
 {
     if same(field, b"1") {
         return number(1);
     }
-    FieldAnswer::Refused(AtPacketError::TypeDecodeUnsupported)
+    FieldAnswer::Unsupported
 }
 
 fn protocol_field(field: &[u8]) -> FieldAnswer
-    ensures { λ r. ⌜ ((p : ℕ) → oneOf protocol r ≡ readField protocol p (now (field .entry))) ⌝ }
+    ensures { λ r. ⌜ ((i p : ℕ) → oneOf i protocol r ≡ readField i protocol p (now (field .entry))) ⌝ }
 {
-    let Number8::Value(n) = read8(field) else {
-        return FieldAnswer::Refused(AtPacketError::TypeDecodeParameterDataTypeInvalid);
-    };
-    match n {
-        1 => number(1),
-        2 => number(2),
-        6 => number(6),
-        _ => FieldAnswer::Refused(AtPacketError::TypeDecodeParameterDataTypeInvalid),
+    match read8(field) {
+        Number8::Value(n) => match n {
+            1 => number(1),
+            2 => number(2),
+            6 => number(6),
+            _ => FieldAnswer::Invalid(FieldError::NotListed),
+        },
+        Number8::Refused(e) => FieldAnswer::Invalid(FieldError::NoNumber(e)),
     }
 }
 
 fn reason_field(field: &[u8]) -> FieldAnswer
-    ensures { λ r. ⌜ ((p : ℕ) → oneOf reason r ≡ readField reason p (now (field .entry))) ⌝ }
+    ensures { λ r. ⌜ ((i p : ℕ) → oneOf i reason r ≡ readField i reason p (now (field .entry))) ⌝ }
 {
-    let Number8::Value(n) = read8(field) else {
-        return FieldAnswer::Refused(AtPacketError::TypeDecodeParameterDataTypeInvalid);
-    };
-    match n {
-        0..=5 => number(n as usize),
-        _ => FieldAnswer::Refused(AtPacketError::TypeDecodeParameterDataTypeInvalid),
+    match read8(field) {
+        Number8::Value(n) => match n {
+            0..=5 => number(n as usize),
+            _ => FieldAnswer::Invalid(FieldError::NotListed),
+        },
+        Number8::Refused(e) => FieldAnswer::Invalid(FieldError::NoNumber(e)),
     }
 }
 
 // A field that starts at `start`, by the letter of its kind.
 fn field_of(kind: u8, start: usize, field: &[u8]) -> FieldAnswer
-    ensures { λ r. ⌜ oneOf (kindOf kind) r ≡ readField (kindOf kind) start (now (field .entry)) ⌝ }
+    ensures { λ r. ⌜ ((i : ℕ) → oneOf i (kindOf kind) r ≡ readField i (kindOf kind) start (now (field .entry))) ⌝ }
 {
     match kind {
         b'b' => byte_field(field),
@@ -141,6 +140,14 @@ fn field_of(kind: u8, start: usize, field: &[u8]) -> FieldAnswer
 pub(crate) enum Stop {
     Nowhere,
     Refused(AtPacketError),
+}
+
+// The number of the field after the first `i`, of which there are at most seven.
+fn counted(i: usize) -> u8
+    requires { ⌜ i < 7 ⌝ }
+    ensures { λ r. ⌜ r ≡ i + 1 ⌝ }
+{
+    (i + 1) as u8
 }
 
 // A row and its fields, in their order.
@@ -179,7 +186,7 @@ pub(crate) fn taken_for(row: usize, numbers: &[usize]) -> Taken
 // The fields of a row by the letters of its kinds, left to right, two numbers for each. They are lent, so that they lie on the stack once.
 pub(crate) fn take_fields(numbers: &mut [usize], kinds: Kinds, s: &[u8], w: Fields) -> Stop
     requires { ⌜ Held kinds × (length (now numbers) ≡ 14) ⌝ }
-    ensures { λ r. ⌜ Took (kindsOf kinds) (takeKinds (kindsOf kinds) (left (now (s .entry)) w)) (now (numbers .exit)) r ⌝ }
+    ensures { λ r. ⌜ Took (kindsOf kinds) (takeKinds 1 (kindsOf kinds) (left (now (s .entry)) w)) (now (numbers .exit)) r ⌝ }
 {
     let letters = kinds.letters;
     let count = kinds.count;
@@ -187,7 +194,8 @@ pub(crate) fn take_fields(numbers: &mut [usize], kinds: Kinds, s: &[u8], w: Fiel
     let mut i = 0;
     while i < count {
         let Next::Field { start, len, rest } = field_at(s, at) else {
-            return Stop::Refused(AtPacketError::TypeDecodeParameterMissing);
+            let field = counted(i);
+            return Stop::Refused(AtPacketError::TypeDecodeParameterMissing { field });
         };
         match field_of(letters[i], start, part(s, start, len)) {
             FieldAnswer::Got(field) => {
@@ -195,7 +203,14 @@ pub(crate) fn take_fields(numbers: &mut [usize], kinds: Kinds, s: &[u8], w: Fiel
                 numbers[k] = field.value;
                 numbers[k + 1] = field.len;
             }
-            FieldAnswer::Refused(e) => return Stop::Refused(e),
+            FieldAnswer::Unsupported => return Stop::Refused(AtPacketError::TypeDecodeUnsupported),
+            FieldAnswer::Invalid(why) => {
+                let field = counted(i);
+                return Stop::Refused(AtPacketError::TypeDecodeParameterDataTypeInvalid {
+                    field,
+                    why,
+                });
+            }
         }
         at = rest.at;
         i += 1;

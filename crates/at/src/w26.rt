@@ -240,8 +240,8 @@ fn is_unsupported(stop: Stop) -> bool
             AtPacketError::Utf8DecodeFailed => false,
             AtPacketError::FramingDecodeFailed => false,
             AtPacketError::TypeDecodeUnsupported => true,
-            AtPacketError::TypeDecodeParameterMissing => false,
-            AtPacketError::TypeDecodeParameterDataTypeInvalid => false,
+            AtPacketError::TypeDecodeParameterMissing { field: _ } => false,
+            AtPacketError::TypeDecodeParameterDataTypeInvalid { field: _, why: _ } => false,
             AtPacketError::EventUnknown => false,
         },
     }

@@ -300,7 +300,10 @@ fn socket_data(s: &[u8], start: usize) -> BinaryAnswer
     match first_byte(s, start, 1) {
         Found::Nothing => BinaryAnswer::Refused(AtPacketError::FramingDecodeFailed),
         Found::At(marker) => match read8(part(s, start, marker - start)) {
-            Number8::Refused => BinaryAnswer::Refused(no_number(part(s, start, marker - start))),
+            Number8::Refused(e) => BinaryAnswer::Refused(no_number(
+                part(s, start, marker - start),
+                e,
+            )),
             Number8::Value(n) => match data_at(s, marker + 1) {
                 Data::Refused(e) => BinaryAnswer::Refused(e),
                 Data::Got(data) => BinaryAnswer::Event {

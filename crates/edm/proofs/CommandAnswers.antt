@@ -11,9 +11,9 @@ use lib.ListN.{length, take, drop, getD}
 use lib.Seq.{take-at}
 use Rattle.text.proofs.OneOutcome.{One, distinguished}
 use Rattle.at.specs.declared.Text.{Text}
-use Rattle.edm.specs.Refusal.{refusalNo}
+use Rattle.edm.specs.Refusal.{refusalOf}
 use Rattle.at.specs.Written.{answerTo, after}
-use Rattle.at.specs.Refusal.{OrRefused, good, refused}
+use Rattle.at.specs.Refusal.{Refusal, OrRefused, good, refused}
 use Rattle.edm.specs.Command.{frame, Command, command, inSource, requestOf, commandOf, toWrite, shown}
 use Rattle.edm.specs.declared.Channel.{Channel}
 use Rattle.edm.specs.declared.EdmPacketError.{EdmPacketError}
@@ -56,7 +56,7 @@ wrote-bytes : (n : ℕ) (w : OrRefused (List ℕ)) → good n ≡ answerTo w →
 wrote-bytes n (good f) e = (f, refl, cc)
 wrote-bytes n (refused m) e = let z : _≡_ {A = ℕ} 0 1 = cc in absurd (omega arith)
 
-refused-bytes : (m : ℕ) (b : List ℕ) (w : OrRefused (List ℕ)) → refused m ≡ answerTo w → after b w ≡ b
+refused-bytes : (m : Refusal) (b : List ℕ) (w : OrRefused (List ℕ)) → refused m ≡ answerTo w → after b w ≡ b
 refused-bytes m b (good f) e = let z : _≡_ {A = ℕ} 0 1 = cc in absurd (omega arith)
 refused-bytes m b (refused n) e = refl
 
@@ -103,7 +103,7 @@ module _ (κs : Lfts 2) (a : Dens κs write.Kinds.ps) (e : AtExit (endedOf 2 wri
 
   -- a refused write that has changed a byte
   pub refused-changes-nothing : (x : EdmPacketError) → write.Reads.Post κs a (answer.Refused x) e → e .0 .now ≡ buf
-  refused-changes-nothing x p = p .leaves ∙ refused-bytes (refusalNo x) buf toPut (p .answers)
+  refused-changes-nothing x p = p .leaves ∙ refused-bytes (refusalOf x) buf toPut (p .answers)
 
   -- a length is answered only where the source has the place that the command is made of
   in-place : (n start len : ℕ) (make : List ℕ → OrRefused Command) → commandOf (a .1 .0 .now) (a .1 .1 .0) ≡ inSource (a .1 .0 .now) start len make

@@ -14,7 +14,7 @@ use Rattle.text.specs.Utf8.{utf8}
 use Rattle.text.specs.Put.{after as put}
 use Rattle.text.proofs.PutAppend.{after-append, after-front}
 use Rattle.at.specs.Written.{answerTo, after}
-use Rattle.at.specs.Refusal.{OrRefused, good, refused}
+use Rattle.at.specs.Refusal.{OrRefused, good, refused, no}
 use Rattle.edm.specs.Command.{frame, Command, command, commandOf, inSource, requestOf, toSend, toWrite, fitted, shown, Writes}
 use Rattle.edm.specs.declared.WriteAnswer.{WriteAnswer}
 use Rattle.edm.specs.declared.WriteAnswer.the-variants as answer
@@ -31,15 +31,15 @@ module _ (room id : ℕ) (t : List ℕ) where
   pub within : length t ≤ 4093 → length t + 6 ≤ room → fitted room (good (command id t)) ≡ good (frame id t)
   within h k = rw (le-leb (length t) 4093 h, le-leb (length t + 6) room k)
 
-  pub over : (length t ≤ 4093 → room < length t + 6) → fitted room (good (command id t)) ≡ refused 10
+  pub over : (length t ≤ 4093 → room < length t + 6) → fitted room (good (command id t)) ≡ refused (no 10)
   over h = go (leb (length t) 4093) refl
     where
-      go : (l : Bool) → leb (length t) 4093 ≡ l → cond (l && leb (length t + 6) room) (good (frame id t)) (refused 10) ≡ refused 10
+      go : (l : Bool) → leb (length t) 4093 ≡ l → cond (l && leb (length t + 6) room) (good (frame id t)) (refused (no 10)) ≡ refused (no 10)
       go true e = rw (lt-leb (length t + 6) room (h (leb-true (length t) 4093 e)))
       go false e = refl
 
 -- a refusal leaves the buffer as it was
-pub refuses : {w : OrRefused (List ℕ)} {r : WriteAnswer} (b : List ℕ) (n : ℕ) → w ≡ refused n → shown r ≡ refused n → Writes b w r b
+pub refuses : {w : OrRefused (List ℕ)} {r : WriteAnswer} (b : List ℕ) (n : ℕ) → w ≡ refused (no n) → shown r ≡ refused (no n) → Writes b w r b
 refuses b n p q = record { answers = rw p q; leaves = rw p }
 
 -- bytes put just after those that were put at the front
@@ -101,7 +101,7 @@ module _ (room : ℕ) (k : OrRefused Command) where
   unfolding toSend
   takes h = rw (le-ltb room 6 h)
 
-  pub takes-none : room < 6 → toSend room k ≡ refused 2
+  pub takes-none : room < 6 → toSend room k ≡ refused (no 2)
   unfolding toSend
   takes-none h = rw (lt-ltb room 6 h)
 
@@ -132,13 +132,13 @@ unfolding toSend toWrite
 framed room src p f e = go (ltb room 6) (commandOf src p) e
   where
     fits : (id : ℕ) (t : List ℕ) (l m : Bool) → leb (length t) 4093 ≡ l → leb (length t + 6) room ≡ m
-        → cond (l && m) (good (frame id t)) (refused 10) ≡ good f → Framed room (good (command id t)) f
+        → cond (l && m) (good (frame id t)) (refused (no 10)) ≡ good f → Framed room (good (command id t)) f
     fits id t true true l m q =
         record { id = id; payload = t; commands = refl; frames = cc; short = leb-true (length t) 4093 l; roomy = leb-true (length t + 6) room m }
     fits id t true false l m q = let z : _≡_ {A = ℕ} 0 1 = cc in absurd (omega arith)
     fits id t false m l n q = let z : _≡_ {A = ℕ} 0 1 = cc in absurd (omega arith)
 
-    go : (s : Bool) (k : OrRefused Command) → cond s (refused 2) (fitted room k) ≡ good f → Framed room k f
+    go : (s : Bool) (k : OrRefused Command) → cond s (refused (no 2)) (fitted room k) ≡ good f → Framed room k f
     go true k q = let z : _≡_ {A = ℕ} 0 1 = cc in absurd (omega arith)
     go false (good (command id t)) q = fits id t (leb (length t) 4093) (leb (length t + 6) room) refl refl q
     go false (refused n) q = let z : _≡_ {A = ℕ} 0 1 = cc in absurd (omega arith)
@@ -148,7 +148,7 @@ pub in-source : (src : List ℕ) (start len : ℕ) (make : List ℕ → OrRefuse
     → (start + len ≤ length src) × (make (part src start len) ≡ good (command id t))
 in-source src start len make id t e = go (leb (start + len) (length src)) refl e
   where
-    go : (l : Bool) → leb (start + len) (length src) ≡ l → cond l (make (part src start len)) (refused 10) ≡ good (command id t)
+    go : (l : Bool) → leb (start + len) (length src) ≡ l → cond l (make (part src start len)) (refused (no 10)) ≡ good (command id t)
         → (start + len ≤ length src) × (make (part src start len) ≡ good (command id t))
     go true h q = (leb-true (start + len) (length src) h, q)
     go false h q = let z : _≡_ {A = ℕ} 0 1 = cc in absurd (omega arith)
@@ -157,7 +157,7 @@ in-source src start len make id t e = go (leb (start + len) (length src)) refl e
 pub is-request : (u : List ℕ) (id : ℕ) (t : List ℕ) → requestOf u ≡ good (command id t) → (utf8 u ≡ true) × (id ≡ 0x44) × (t ≡ u ++ 13 ∷ [])
 is-request u id t e = go (utf8 u) refl e
   where
-    go : (v : Bool) → utf8 u ≡ v → cond v (good (command 0x44 (u ++ 13 ∷ []))) (refused 8) ≡ good (command id t) → (utf8 u ≡ true) × (id ≡ 0x44) × (t ≡ u ++ 13 ∷ [])
+    go : (v : Bool) → utf8 u ≡ v → cond v (good (command 0x44 (u ++ 13 ∷ []))) (refused (no 8)) ≡ good (command id t) → (utf8 u ≡ true) × (id ≡ 0x44) × (t ≡ u ++ 13 ∷ [])
     go true h q = (h, cc, cc)
     go false h q = let z : _≡_ {A = ℕ} 0 1 = cc in absurd (omega arith)
 

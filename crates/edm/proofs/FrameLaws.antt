@@ -8,12 +8,12 @@ use lib.Dec.{ltb}
 use lib.ListN.{length, take, length-drop}
 use lib.Seq.{length-take-le}
 use borrow.Author.Tests.{eqb-true, ltb-false}
-use Rattle.at.specs.Refusal.{OrRefused, good, refused}
+use Rattle.at.specs.Refusal.{OrRefused, good, refused, no}
 use Rattle.edm.specs.Packet.{Packet}
 use Rattle.edm.specs.Frame.{delimited, lengthField, payload, readFrame}
 
 -- a packet comes by the tests that refuse with 2 and 3
-accepted : (d l m : Bool) (o : OrRefused Packet) (p : Packet) → cond d (cond l (refused 2) (cond m o (refused 3))) (refused 1) ≡ good p → (l ≡ false) × (m ≡ true)
+accepted : (d l m : Bool) (o : OrRefused Packet) (p : Packet) → cond d (cond l (refused (no 2)) (cond m o (refused (no 3)))) (refused (no 1)) ≡ good p → (l ≡ false) × (m ≡ true)
 accepted true false true o p e = (refl, refl)
 accepted true false false o p e = let z : _≡_ {A = ℕ} 0 1 = cc in absurd (omega arith)
 accepted true true m o p e = let z : _≡_ {A = ℕ} 0 1 = cc in absurd (omega arith)

@@ -1,23 +1,28 @@
--- No two refusals of the frame layer have one number: each is found again by its number.
+-- A refusal says which error of the frame layer it is: no two of them have one number, and what is carried is kept.
 use Prim.Native.Nat.{ℕ}
 use mathlib.Core.Path.{_≡_, refl}
 use mathlib.Core.List.{List, [], _∷_}
 use mathlib.Core.Bool.{cond}
-use lib.Dec.{eqb}
+use lib.Dec.{eqb, ltb}
 use Rattle.text.proofs.OneOutcome.{distinguished}
+use Rattle.at.specs.Refusal.{Refusal, no, missing, invalid, numberOf}
+use Rattle.at.specs.declared.AtPacketError.{AtPacketError}
 use Rattle.at.specs.declared.AtPacketError.the-variants as at
-use Rattle.edm.specs.Refusal.{refusalNo}
+use Rattle.at.proofs.Refusals as events
+use Rattle.edm.specs.Refusal.{refusalOf}
 use Rattle.edm.specs.declared.EdmPacketError.{EdmPacketError}
 use Rattle.edm.specs.declared.EdmPacketError.the-variants as error
 
 -- the refusal with a number: the first of these that has it
 abbrev firstWith : ℕ → List EdmPacketError → EdmPacketError
 firstWith n [] = error.PayloadTypeUnknown
-firstWith n (e ∷ es) = cond (eqb n (refusalNo e)) e (firstWith n es)
+firstWith n (e ∷ es) = cond (eqb n (numberOf (refusalOf e))) e (firstWith n es)
 
-abbrev pub errorOf : ℕ → EdmPacketError
-errorOf n =
-    firstWith n
+-- those of the AT layer have the numbers over 10
+abbrev pub errorOf : Refusal → EdmPacketError
+errorOf (no n) =
+    cond (ltb 10 n) (error.AtPacketError (events.errorOf (no n)))
+    (firstWith n
     (error.PacketDecodeFramingInvalid
     ∷ error.PacketDecodeTargetMemorySizeInvalid
     ∷ error.PacketTypeDecodeLengthMismatch
@@ -27,15 +32,11 @@ errorOf n =
     ∷ error.AtRequestEventDecodeError
     ∷ error.PacketEncodeTypeUnknown
     ∷ error.PacketEncodePayloadSizeInvalid
-    ∷ error.AtPacketError at.Utf8DecodeFailed
-    ∷ error.AtPacketError at.FramingDecodeFailed
-    ∷ error.AtPacketError at.TypeDecodeUnsupported
-    ∷ error.AtPacketError at.TypeDecodeParameterMissing
-    ∷ error.AtPacketError at.TypeDecodeParameterDataTypeInvalid
-    ∷ error.AtPacketError at.EventUnknown
-    ∷ [])
+    ∷ []))
+errorOf (missing field) = error.AtPacketError (events.errorOf (missing field))
+errorOf (invalid field why) = error.AtPacketError (events.errorOf (invalid field why))
 
-pub error-back : (e : EdmPacketError) → errorOf (refusalNo e) ≡ e
+pub error-back : (e : EdmPacketError) → errorOf (refusalOf e) ≡ e
 error-back error.PacketDecodeFramingInvalid = refl
 error-back error.PacketDecodeTargetMemorySizeInvalid = refl
 error-back error.PacketTypeDecodeLengthMismatch = refl
@@ -49,10 +50,10 @@ error-back error.PacketEncodePayloadSizeInvalid = refl
 error-back (error.AtPacketError at.Utf8DecodeFailed) = refl
 error-back (error.AtPacketError at.FramingDecodeFailed) = refl
 error-back (error.AtPacketError at.TypeDecodeUnsupported) = refl
-error-back (error.AtPacketError at.TypeDecodeParameterMissing) = refl
-error-back (error.AtPacketError at.TypeDecodeParameterDataTypeInvalid) = refl
+error-back (error.AtPacketError (at.TypeDecodeParameterMissing field)) = refl
+error-back (error.AtPacketError (at.TypeDecodeParameterDataTypeInvalid field why)) = refl
 error-back (error.AtPacketError at.EventUnknown) = refl
 
--- no two refusals have one number
-pub refusal-injective : (d e : EdmPacketError) → refusalNo d ≡ refusalNo e → d ≡ e
-refusal-injective = distinguished refusalNo errorOf error-back
+-- no two refusals of the code are one
+pub refusal-injective : (d e : EdmPacketError) → refusalOf d ≡ refusalOf e → d ≡ e
+refusal-injective = distinguished refusalOf errorOf error-back

@@ -7,9 +7,9 @@ use lib.Dec.{leb, ltb}
 use lib.ListN.{length}
 use Rattle.text.specs.Bytes.{part}
 use Rattle.text.specs.Utf8.{utf8}
-use Rattle.at.specs.Refusal.{OrRefused, good, refused}
+use Rattle.at.specs.Refusal.{OrRefused, good, refused, no}
 use Rattle.at.specs.Written.{answerTo, after}
-use Rattle.edm.specs.Refusal.{refusalNo}
+use Rattle.edm.specs.Refusal.{refusalOf}
 use Rattle.edm.specs.declared.EdmPacket.{EdmPacket}
 use Rattle.edm.specs.declared.EdmPacket.the-variants as is
 use Rattle.edm.specs.declared.WriteAnswer.{WriteAnswer}
@@ -29,39 +29,39 @@ pub data Command : Type 0 where
 
 -- the command that is made of the bytes of a place in the source; a place that runs past its end is 10
 abbrev pub inSource : List ℕ → ℕ → ℕ → (List ℕ → OrRefused Command) → OrRefused Command
-inSource src start len make = cond (leb (start + len) (length src)) (make (part src start len)) (refused 10)
+inSource src start len make = cond (leb (start + len) (length src)) (make (part src start len)) (refused (no 10))
 
 -- a request is UTF-8 (8), and a CR is written after it
 abbrev pub requestOf : List ℕ → OrRefused Command
-requestOf t = cond (utf8 t) (good (command 0x44 (t ++ 13 ∷ []))) (refused 8)
+requestOf t = cond (utf8 t) (good (command 0x44 (t ++ 13 ∷ []))) (refused (no 8))
 
 -- a packet that is no command is 9
 abbrev pub commandOf : List ℕ → EdmPacket → OrRefused Command
 commandOf src (is.DataCommand c d) = inSource src (d .start) (d .len) (λ t. good (command 0x36 (c .0 ∷ t)))
 commandOf src (is.ATRequest t) = inSource src (t .start) (t .len) requestOf
 commandOf src is.ResendConnectEvents = good (command 0x56 [])
-commandOf src (is.ConnectEvent c e) = refused 9
-commandOf src (is.DisconnectEvent c) = refused 9
-commandOf src (is.DataEvent c d) = refused 9
-commandOf src (is.ATResponse r) = refused 9
-commandOf src (is.ATEvent e) = refused 9
-commandOf src is.StartEvent = refused 9
+commandOf src (is.ConnectEvent c e) = refused (no 9)
+commandOf src (is.DisconnectEvent c) = refused (no 9)
+commandOf src (is.DataEvent c d) = refused (no 9)
+commandOf src (is.ATResponse r) = refused (no 9)
+commandOf src (is.ATEvent e) = refused (no 9)
+commandOf src is.StartEvent = refused (no 9)
 
 -- the bytes to write: a payload over 4,093 bytes, or over the buffer's length less 6, is 10
 abbrev pub fitted : ℕ → OrRefused Command → OrRefused (List ℕ)
-fitted room (good (command id payload)) = cond (leb (length payload) 4093 && leb (length payload + 6) room) (good (frame id payload)) (refused 10)
+fitted room (good (command id payload)) = cond (leb (length payload) 4093 && leb (length payload + 6) room) (good (frame id payload)) (refused (no 10))
 fitted room (refused n) = refused n
 
 -- a buffer under 6 bytes is 2, before all else
 unfoldable pub toSend : ℕ → OrRefused Command → OrRefused (List ℕ)
-toSend room c = cond (ltb room 6) (refused 2) (fitted room c)
+toSend room c = cond (ltb room 6) (refused (no 2)) (fitted room c)
 
 unfoldable pub toWrite : ℕ → List ℕ → EdmPacket → OrRefused (List ℕ)
 toWrite room src p = toSend room (commandOf src p)
 
 abbrev pub shown : WriteAnswer → OrRefused ℕ
 shown (answer.Wrote n) = good n
-shown (answer.Refused e) = refused (refusalNo e)
+shown (answer.Refused e) = refused (refusalOf e)
 
 -- what a write promises: its answer, and every byte of the buffer afterwards
 pub record Writes (buf : List ℕ) (w : OrRefused (List ℕ)) (r : WriteAnswer) (exit : List ℕ) : Type 0 where

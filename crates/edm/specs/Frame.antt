@@ -4,7 +4,7 @@ use mathlib.Core.List.{List}
 use mathlib.Core.Bool.{Bool, cond, _&&_}
 use lib.Dec.{eqb, leb, ltb}
 use lib.ListN.{length, take, drop}
-use Rattle.at.specs.Refusal.{OrRefused, refused}
+use Rattle.at.specs.Refusal.{OrRefused, refused, no}
 use Rattle.edm.specs.Packet.{identifiers, carried, Packet}
 use Rattle.edm.specs.Payload.{byte, word, readPayload}
 
@@ -24,6 +24,6 @@ payload s = drop 5 (take (length s - 1) s)
 unfoldable pub readFrame : List ℕ → OrRefused Packet
 readFrame s =
     cond (delimited s)
-    (cond (ltb (length s) 6) (refused 2)
-    (cond (eqb (lengthField s) (length (payload s) + 2)) (readPayload (carried identifiers (word s 3)) 5 (payload s)) (refused 3)))
-    (refused 1)
+    (cond (ltb (length s) 6) (refused (no 2))
+    (cond (eqb (lengthField s) (length (payload s) + 2)) (readPayload (carried identifiers (word s 3)) 5 (payload s)) (refused (no 3))))
+    (refused (no 1))

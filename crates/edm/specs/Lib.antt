@@ -4,3 +4,4 @@ pub mod Payload
 pub mod Frame
 pub mod Command
 pub mod Inside
+pub mod Why

@@ -7,7 +7,7 @@ use Rattle.at.specs.Refusal.{OrRefused, good, refused}
 use Rattle.at.specs.Event.{Value, at, num, Event}
 use Rattle.at.specs.Response.{Response, responseOf}
 use Rattle.at.specs.W26.{eventOf}
-use Rattle.edm.specs.Refusal.{refusalNo}
+use Rattle.edm.specs.Refusal.{refusalOf}
 use Rattle.edm.specs.declared.EdmPacket.{EdmPacket}
 use Rattle.edm.specs.declared.EdmPacket.the-variants as is
 use Rattle.edm.specs.declared.FrameAnswer.{FrameAnswer}
@@ -60,4 +60,4 @@ packetOf is.StartEvent = startPacket
 
 abbrev pub shown : FrameAnswer → OrRefused Packet
 shown (answer.Packet p) = good (packetOf p)
-shown (answer.Refused e) = refused (refusalNo e)
+shown (answer.Refused e) = refused (refusalOf e)

@@ -11,7 +11,7 @@ ghost use mathlib.Core.Path.{_≡_};
 ghost use mathlib.Core.List.{[], _∷_, _++_};
 ghost use Prim.Native.Nat.{_+_, _≤_};
 ghost use lib.ListN.{length};
-ghost use Rattle.at.specs.Refusal.{good, refused};
+ghost use Rattle.at.specs.Refusal.{no, good, refused};
 ghost use Rattle.edm.specs.Command.{command, requestOf, fitted, toSend, toWrite, shown, Writes};
 
 // The frame of an identifier whose payload is `before`, `body` and `tail`.
@@ -89,7 +89,7 @@ pub fn write_resend(buf: &mut [u8]) -> WriteAnswer
 }
 
 fn no_command() -> WriteAnswer
-    ensures { λ r. ⌜ shown r ≡ refused 9 ⌝ }
+    ensures { λ r. ⌜ shown r ≡ refused (no 9) ⌝ }
 {
     WriteAnswer::Refused(EdmPacketError::PacketEncodeTypeUnknown)
 }

@@ -9,7 +9,7 @@ use lib.ListN.{length, take, drop, length-append, length-take, length-drop}
 use borrow.Author.Tests.{leb-true}
 use Rattle.text.specs.Bytes.{bytes, startsWith}
 use Rattle.text.proofs.Bools.{and-left, and-right}
-use Rattle.at.specs.Refusal.{OrRefused, good, refused}
+use Rattle.at.specs.Refusal.{OrRefused, good, refused, no}
 use Rattle.at.specs.Event.{Row, nameOf, kindsOf, Value, place, Event, event, eventTo, upTo, Read, values, withValues, takeKinds, readRow}
 use Rattle.at.specs.Line.{before, Radio, Body, body, framed, rowsNamed, fieldsAfter, readText, readFramed, readLine}
 use Rattle.at.specs.Binary.{fieldsUpTo, readFields, findMarker, announced, Data, dataAt, readData, withData, readMarked, readBody, tried, prefix, tryRows}
@@ -34,7 +34,7 @@ unfolding readData
 data-read p t a n e = go (leb 2 (length t)) refl (leb (announced t) (length t - 2)) refl e
   where
     go : (k : Bool) → leb 2 (length t) ≡ k → (l : Bool) → leb (announced t) (length t - 2) ≡ l
-        → cond k (cond l (good (dataAt (p + 2) (announced t))) (refused 12)) (refused 12) ≡ good (dataAt a n) → (a ≡ p + 2) × (2 + n ≤ length t)
+        → cond k (cond l (good (dataAt (p + 2) (announced t))) (refused (no 12))) (refused (no 12)) ≡ good (dataAt a n) → (a ≡ p + 2) × (2 + n ≤ length t)
     go true k true l e =
         let x : p + 2 ≡ a = cc in
         let y : announced t ≡ n = cc in
@@ -56,16 +56,16 @@ module _ (test : Row → Bool) (src : List ℕ) (r : Row) (vs : List Value) wher
   text-short rows x t p q a e h =
       let name = before (bytes ":") t in
       let b = read-by-one (λ b. (test b ≡ true) × (name ≡ nameOf b)) (fieldsAfter x t) (event r vs) (rowsNamed rows name) (each-named (λ b. test b ≡ true) rows name (each-passes test rows a)) e in
-      read (b .0) (b .1) (takeKinds (kindsOf (b .0)) (fieldsAfter x t)) refl (b .2)
+      read (b .0) (b .1) (takeKinds 1 (kindsOf (b .0)) (fieldsAfter x t)) refl (b .2)
     where
-      read : (b : Row) → (test b ≡ true) × (before (bytes ":") t ≡ nameOf b) → (o : OrRefused Read) → takeKinds (kindsOf b) (fieldsAfter x t) ≡ o → withValues b o ≡ good (event r vs)
+      read : (b : Row) → (test b ≡ true) × (before (bytes ":") t ≡ nameOf b) → (o : OrRefused Read) → takeKinds 1 (kindsOf b) (fieldsAfter x t) ≡ o → withValues b o ≡ good (event r vs)
           → (test r ≡ true) × Short src p r vs q
       read b k (good (values us l)) o e =
           let f : b ≡ r = cc in
           let g : us ≡ vs = cc in
           let n : (test r ≡ true) × (before (bytes ":") t ≡ nameOf r) = rw f at k in
-          let v : takeKinds (kindsOf r) (fieldsAfter x t) ≡ good (values vs l) = rw (f, g) at o in
-          let w = rw (append-nil vs) at (values-within (kindsOf r) (fieldsAfter x t) src vs [] l v) in
+          let v : takeKinds 1 (kindsOf r) (fieldsAfter x t) ≡ good (values vs l) = rw (f, g) at o in
+          let w = rw (append-nil vs) at (values-within 1 (kindsOf r) (fieldsAfter x t) src vs [] l v) in
           let u : length (before (bytes ":") t) ≡ length (nameOf r) = ap length (n .1) in
           let m = weight-after x t in
           (n .0, record { named = omega arith; short = omega (arith, w, data-none src) })
@@ -99,8 +99,8 @@ module _ (test : Row → Bool) (src : List ℕ) (r : Row) (vs : List Value) wher
       let b : a ≡ r = cc in
       let g : us ++ place x n ∷ [] ≡ vs = cc in
       let z : x + n ≡ q = cc in
-      let v : takeKinds (kindsOf r) (fieldsUpTo (length (kindsOf r) - 1) p u) ≡ good (values us l) = rw b at f in
-      let w = rw g at (values-within (kindsOf r) (fieldsUpTo (length (kindsOf r) - 1) p u) src us (place x n ∷ []) l v) in
+      let v : takeKinds 1 (kindsOf r) (fieldsUpTo (length (kindsOf r) - 1) p u) ≡ good (values us l) = rw b at f in
+      let w = rw g at (values-within 1 (kindsOf r) (fieldsUpTo (length (kindsOf r) - 1) p u) src us (place x n ∷ []) l v) in
       let m = weight-up-to (length (kindsOf r) - 1) p u in
       let i = data-read (p + k + 1) t x n d in
       (b, omega (arith, z, i), omega (arith, w, m, h, z, i, data-place src x n [], data-none src), omega (arith, i), omega (arith, z, i))

@@ -3,15 +3,17 @@ use mathlib.Core.Path.{_≡_, refl}
 use mathlib.Core.List.{[], _∷_}
 use Rattle.text.specs.Bytes.{bytes, hex, part, same}
 use Rattle.text.specs.Decimal.{digitsOf, decimal}
-use Rattle.at.specs.Refusal.{good, refused}
+use Rattle.at.specs.Refusal.{no, missing, invalid, good, refused}
+use Rattle.at.specs.declared.FieldError.the-variants.{NotListed}
 use Rattle.at.specs.Event.{num, place, event}
 use Rattle.at.specs.W26.{UUWLD, UUETHLU}
 use Rattle.at.specs.W36.{UESOC, UEWAPSA}
 use Rattle.at.specs.Walk.{eventThen, thenEnd, thenRefused}
 use Rattle.edm.specs.Packet.{dataPacket, connectEvent, atPacket}
 use Rattle.render.specs.Words.{pairsOf, nameIn, reasons, numberWord, valuesLine}
+use Rattle.render.specs.Why.{whyLine, whyFrameLine}
 use Rattle.render.specs.Refusal.{refusals, refusedLine, frameRefusedLine}
-use Rattle.render.specs.Event.{cases26, cases36, caseOf, eventLine}
+use Rattle.render.specs.Event.{cases26, cases36, caseOf, eventLine, answerLine}
 use Rattle.render.specs.Frame.{frameLine}
 use Rattle.render.specs.Walk.{walkLine}
 
@@ -41,9 +43,22 @@ unfolding valuesLine part cases36 caseOf same
 no-text = refl
 
 -- a refusal of the AT layer in a frame
-pub wrapped : frameLine [] (refused 16) ≡ bytes "refused AtPacketError EventUnknown"
+pub wrapped : frameLine [] (refused (no 16)) ≡ bytes "refused AtPacketError EventUnknown"
 unfolding frameRefusedLine nameIn refusals
 wrapped = refl
+
+-- what a refusal carries, which only the words that ask for it print
+pub which-field : whyLine cases26 [] (refused (invalid 3 NotListed)) ≡ bytes "refused TypeDecodeParameterDataTypeInvalid field 3 list"
+unfolding refusedLine nameIn refusals decimal digitsOf
+which-field = refl
+
+pub wrapped-field : whyFrameLine [] (refused (missing 5)) ≡ bytes "refused AtPacketError TypeDecodeParameterMissing field 5"
+unfolding frameRefusedLine nameIn refusals decimal digitsOf
+wrapped-field = refl
+
+pub not-asked : answerLine cases26 [] (refused (invalid 3 NotListed)) ≡ bytes "refused TypeDecodeParameterDataTypeInvalid"
+unfolding refusedLine nameIn refusals
+not-asked = refl
 
 -- a walk to the end, and one that stops
 pub two-connected : walkLine [] (eventThen (event UESOC (num 1 ∷ [])) 12 (eventThen (event UESOC (num 2 ∷ [])) 24 thenEnd))
@@ -51,6 +66,6 @@ pub two-connected : walkLine [] (eventThen (event UESOC (num 1 ∷ [])) 12 (even
 unfolding walkLine valuesLine numberWord decimal digitsOf cases36 caseOf same
 two-connected = refl
 
-pub one-connected : walkLine [] (eventThen (event UESOC (num 1 ∷ [])) 12 (thenRefused 12 12)) ≡ bytes "SocketConnected 1 @12 ; refused FramingDecodeFailed @12"
+pub one-connected : walkLine [] (eventThen (event UESOC (num 1 ∷ [])) 12 (thenRefused (no 12) 12)) ≡ bytes "SocketConnected 1 @12 ; refused FramingDecodeFailed @12"
 unfolding walkLine valuesLine numberWord decimal digitsOf cases36 caseOf same refusedLine nameIn refusals
 one-connected = refl

@@ -64,20 +64,20 @@ extras [] = 0
 extras (k ∷ ks) = extra k + extras ks
 
 -- the values of fields, and values without a kind after them
-pub values-within : (ks : List Kind) (fs : List Field) (src : List ℕ) (vs more : List Value) (rest : List Field) → takeKinds ks fs ≡ good (values vs rest)
+pub values-within : (i : ℕ) (ks : List Kind) (fs : List Field) (src : List ℕ) (vs more : List Value) (rest : List Field) → takeKinds i ks fs ≡ good (values vs rest)
     → length (valuesLine ks src (vs ++ more)) ≤ 2 * weight fs + extras ks + length (valuesLine [] src more)
 unfolding takeKinds takeKind extras weight
-values-within [] fs src vs more rest e = let f : vs ≡ [] = cc in rw f (omega arith)
-values-within (k ∷ ks) [] src vs more rest e = let z : _≡_ {A = ℕ} 0 1 = cc in absurd (omega arith)
-values-within (k ∷ ks) (field p b ∷ fs) src vs more rest e = go (readField k p b) refl (takeKinds ks fs) refl e (values-within ks fs src)
+values-within i [] fs src vs more rest e = let f : vs ≡ [] = cc in rw f (omega arith)
+values-within i (k ∷ ks) [] src vs more rest e = let z : _≡_ {A = ℕ} 0 1 = cc in absurd (omega arith)
+values-within i (k ∷ ks) (field p b ∷ fs) src vs more rest e = go (readField i k p b) refl (takeKinds (suc i) ks fs) refl e (values-within (suc i) ks fs src)
   where
-    go : (o : OrRefused Value) → readField k p b ≡ o → (r : OrRefused Read) → takeKinds ks fs ≡ r → andThen (andRest o fs) (λ l. takeKinds ks l) ≡ good (values vs rest)
-        → ((us more : List Value) (rest : List Field) → takeKinds ks fs ≡ good (values us rest)
+    go : (o : OrRefused Value) → readField i k p b ≡ o → (r : OrRefused Read) → takeKinds (suc i) ks fs ≡ r → andThen (andRest o fs) (λ l. takeKinds (suc i) ks l) ≡ good (values vs rest)
+        → ((us more : List Value) (rest : List Field) → takeKinds (suc i) ks fs ≡ good (values us rest)
         → length (valuesLine ks src (us ++ more)) ≤ 2 * weight fs + extras ks + length (valuesLine [] src more))
         → length (valuesLine (k ∷ ks) src (vs ++ more)) ≤ 2 * (suc (length b) + weight fs) + (extra k + extras ks) + length (valuesLine [] src more)
     go (good v) o (good (values us l)) r e ih =
         let f : prepend v (good (values us l)) ≡ good (values vs rest) = rw r at e in
         let g : vs ≡ v ∷ us = cc in
-        rw g (unfold valuesLine in omega (arith, length-append (spacedWord k src v) (valuesLine ks src (us ++ more)), spaced-within k p b src v o, ih us more l r))
+        rw g (unfold valuesLine in omega (arith, length-append (spacedWord k src v) (valuesLine ks src (us ++ more)), spaced-within i k p b src v o, ih us more l r))
     go (good v) o (refused n) r e ih = let f : prepend v (refused n) ≡ good (values vs rest) = rw r at e in let z : _≡_ {A = ℕ} 0 1 = cc in absurd (omega arith)
     go (refused n) o r q e ih = let z : _≡_ {A = ℕ} 0 1 = cc in absurd (omega arith)

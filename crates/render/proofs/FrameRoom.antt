@@ -8,7 +8,7 @@ use lib.ListN.{length, take, drop, getD, length-append, length-take, length-drop
 use lib.Seq.{getD-drop}
 use Rattle.text.specs.Bytes.{bytes}
 use Rattle.text.specs.Utf8.{utf8}
-use Rattle.at.specs.Refusal.{OrRefused, good, refused}
+use Rattle.at.specs.Refusal.{no, numberOf, OrRefused, good, refused}
 use Rattle.at.specs.Event.{num, place, ReadEvent, eventTo}
 use Rattle.at.specs.Line.{readLine}
 use Rattle.at.specs.Response.{Response, readResponse}
@@ -42,11 +42,11 @@ bytes-take (suc n) (b ∷ s) h (suc i) = bytes-take n s (λ j. h (suc j)) i
 module _ (src : List ℕ) where
   of-response : (a : OrRefused Response) → length (frameLine src (ofResponse a)) ≤ length (responseAnswerLine src a) + 57
   of-response (good r) = omega arith
-  of-response (refused n) = omega (arith, frame-refused-room n)
+  of-response (refused n) = omega (arith, frame-refused-room (numberOf n))
 
   of-event : (a : OrRefused ReadEvent) → length (frameLine src (ofEvent a)) ≤ length (answerLine cases26 src a) + 57
   of-event (good (eventTo e q)) = omega arith
-  of-event (refused n) = omega (arith, frame-refused-room n)
+  of-event (refused n) = omega (arith, frame-refused-room (numberOf n))
 
 -- the payload t, at the place p
 module _ (src : List ℕ) (p : ℕ) (t : List ℕ) (h : Bytes t) where
@@ -55,7 +55,7 @@ module _ (src : List ℕ) (p : ℕ) (t : List ℕ) (h : Bytes t) where
   connect-room = go (ltb (length t) 2) (eqb (byte t 1) 2) (eqb (length t) 15)
     where
       go : (a b c : Bool)
-          → length (frameLine src (cond a (refused 2) (cond b (cond c (good (connectEvent (num (byte t 0) ∷ num (byte t 2) ∷ place (p + 3) 4 ∷ num (word t 7) ∷ place (p + 9) 4 ∷ num (word t 13) ∷ []))) (refused 6)) (refused 5))))
+          → length (frameLine src (cond a (refused (no 2)) (cond b (cond c (good (connectEvent (num (byte t 0) ∷ num (byte t 2) ∷ place (p + 3) 4 ∷ num (word t 7) ∷ place (p + 9) 4 ∷ num (word t 13) ∷ []))) (refused (no 6))) (refused (no 5)))))
           ≤ 2 * length t + 150
       go true b c = omega (arith, frame-refused-room 2)
       go false false c = omega (arith, frame-refused-room 5)
@@ -76,7 +76,7 @@ module _ (src : List ℕ) (p : ℕ) (t : List ℕ) (h : Bytes t) where
   unfolding readDisconnect
   disconnect-room = go (eqb (length t) 1)
     where
-      go : (k : Bool) → length (frameLine src (cond k (good (disconnectEvent (num (byte t 0) ∷ []))) (refused 7))) ≤ 2 * length t + 150
+      go : (k : Bool) → length (frameLine src (cond k (good (disconnectEvent (num (byte t 0) ∷ []))) (refused (no 7)))) ≤ 2 * length t + 150
       go true = omega (arith, data-number src 2 (byte t 0) [] (omega (arith, h 0)), data-none src)
       go false = omega (arith, frame-refused-room 7)
 
@@ -84,7 +84,7 @@ module _ (src : List ℕ) (p : ℕ) (t : List ℕ) (h : Bytes t) where
   unfolding readDataEvent
   data-room = go (ltb (length t) 1)
     where
-      go : (k : Bool) → length (frameLine src (cond k (refused 2) (good (dataPacket (num (byte t 0) ∷ place (p + 1) (length t - 1) ∷ []))))) ≤ 2 * length t + 150
+      go : (k : Bool) → length (frameLine src (cond k (refused (no 2)) (good (dataPacket (num (byte t 0) ∷ place (p + 1) (length t - 1) ∷ []))))) ≤ 2 * length t + 150
       go true = omega (arith, frame-refused-room 2)
       go false =
           let d = place (p + 1) (length t - 1) ∷ [] in
@@ -94,7 +94,7 @@ module _ (src : List ℕ) (p : ℕ) (t : List ℕ) (h : Bytes t) where
   unfolding readRequest
   request-room = go (utf8 t)
     where
-      go : (k : Bool) → length (frameLine src (cond k (good (atRequest (place p (length t)))) (refused 8))) ≤ 2 * length t + 150
+      go : (k : Bool) → length (frameLine src (cond k (good (atRequest (place p (length t)))) (refused (no 8)))) ≤ 2 * length t + 150
       go true = omega (arith, data-place src p (length t) [], data-none src)
       go false = omega (arith, frame-refused-room 8)
 
@@ -114,7 +114,7 @@ unfolding readFrame
 frame-room s h = go (delimited s) (ltb (length s) 6) (eqb (lengthField s) (length (payload s) + 2))
   where
     go : (a b c : Bool)
-        → length (frameLine s (cond a (cond b (refused 2) (cond c (readPayload (carried identifiers (word s 3)) 5 (payload s)) (refused 3))) (refused 1))) ≤ 2 * length s + 150
+        → length (frameLine s (cond a (cond b (refused (no 2)) (cond c (readPayload (carried identifiers (word s 3)) 5 (payload s)) (refused (no 3)))) (refused (no 1)))) ≤ 2 * length s + 150
     go true true c = omega (arith, frame-refused-room 2)
     go true false true =
         let t = take (length s - 1) s in

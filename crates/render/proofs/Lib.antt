@@ -14,3 +14,4 @@ pub mod LineRoom
 pub mod ResponseRoom
 pub mod WalkRoom
 pub mod FrameRoom
+pub mod WhyRoom

@@ -8,7 +8,7 @@ use lib.ListN.{length, take, drop, length-append, length-take, length-drop}
 use borrow.Author.Tests.{leb-true}
 use Rattle.text.specs.Bytes.{bytes}
 use Rattle.text.specs.Find.{crlf, firstOf}
-use Rattle.at.specs.Refusal.{OrRefused, good, refused}
+use Rattle.at.specs.Refusal.{numberOf, OrRefused, good, refused}
 use Rattle.at.specs.Event.{Row, kindsOf, Value, ReadEvent, eventTo, event}
 use Rattle.at.specs.Line.{before, Radio, readLine}
 use Rattle.at.specs.Binary.{Tried, notBinary, tried, tryRows}
@@ -53,7 +53,7 @@ answer-room cases radio c h src p line = go (readLine radio p line) refl
     go (good (eventTo (event r vs) q)) e =
         let x = line-short (cheap cases) src r vs radio c h p line q e in
         event-room cases src p r vs q (length line) (x .0) (x .1) (x .2)
-    go (refused n) e = omega (arith, refused-room n)
+    go (refused n) e = omega (arith, refused-room (numberOf n))
 
 pub w26-room : (s : List ℕ) → length (answerLine cases26 s (readLine w26.w26 0 s)) ≤ 2 * length s + 150
 w26-room s = omega (arith, answer-room cases26 w26.w26 cheap-26 spans-26 s 0 s)
@@ -68,5 +68,5 @@ binary-room s = go (tryRows w36.binaryTable 0 s) refl
     go (tried (good (eventTo (event r vs) q))) e =
         let x = binary-short (cheap cases36) s r vs w36.binaryTable (passed-36 .0 .binaries) 0 s q e in
         omega (arith, event-room cases36 s 0 r vs q (length s) (x .0) (x .1) (x .2))
-    go (tried (refused n)) e = omega (arith, refused-room n)
+    go (tried (refused n)) e = omega (arith, refused-room (numberOf n))
     go notBinary e = omega arith

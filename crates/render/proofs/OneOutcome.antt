@@ -14,6 +14,10 @@ use Rattle.render.proofs.w36.answer as w36
 use Rattle.render.proofs.w36.binary_answer as binary_answer
 use Rattle.render.proofs.w36.step as step
 use Rattle.render.proofs.frame.answer as frame
+use Rattle.render.proofs.why.w26 as why_w26
+use Rattle.render.proofs.why.w36 as why_w36
+use Rattle.render.proofs.why.binary as why_binary
+use Rattle.render.proofs.why.frame as why_frame
 use Rattle.render.proofs.written.frame as written_frame
 use Rattle.render.proofs.written.event as written_event
 
@@ -58,3 +62,15 @@ one-written-frame κs a x y s t p q = printed-once p q
 
 pub one-written-event : One 2 written_event.Kinds.ps written_event.Kinds.r written_event.Reads.Post (λ κs x s. outcome x (s .0 .now))
 one-written-event κs a x y s t p q = printed-once p q
+
+pub one-why-w26 : One 2 why_w26.Kinds.ps why_w26.Kinds.r why_w26.Reads.Post (λ κs x s. outcome x (s .0 .now))
+one-why-w26 κs a x y s t p q = printed-once p q
+
+pub one-why-w36 : One 2 why_w36.Kinds.ps why_w36.Kinds.r why_w36.Reads.Post (λ κs x s. outcome x (s .0 .now))
+one-why-w36 κs a x y s t p q = printed-once p q
+
+pub one-why-binary : One 2 why_binary.Kinds.ps why_binary.Kinds.r why_binary.Reads.Post (λ κs x s. outcome x (s .0 .now))
+one-why-binary κs a x y s t p q = printed-once p q
+
+pub one-why-frame : One 2 why_frame.Kinds.ps why_frame.Kinds.r why_frame.Reads.Post (λ κs x s. outcome x (s .0 .now))
+one-why-frame κs a x y s t p q = printed-once p q

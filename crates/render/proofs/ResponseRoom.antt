@@ -12,7 +12,7 @@ use Rattle.text.specs.Utf8.{utf8}
 use Rattle.text.specs.declared.find.Found.{Found}
 use Rattle.text.specs.declared.find.Found.the-variants.{At, Nothing}
 use Rattle.at.specs.Line.{endsIn}
-use Rattle.at.specs.Refusal.{good, refused}
+use Rattle.at.specs.Refusal.{good, refused, no}
 use Rattle.at.specs.Response.{ok, other, error, byLast, readBody, readRest, readResponse}
 use Rattle.render.specs.Response.{responseLine, responseAnswerLine}
 use Rattle.render.proofs.WordLengths.{refused-room, data-none, data-place}
@@ -52,7 +52,7 @@ module _ (src : List ℕ) where
   unfolding readRest
   rest-room p t = go (endsIn t crlf)
     where
-      go : (k : Bool) → length (responseAnswerLine src (cond k (good (readBody p (take (length t - 2) t))) (refused 12))) ≤ 2 * length t + 50
+      go : (k : Bool) → length (responseAnswerLine src (cond k (good (readBody p (take (length t - 2) t))) (refused (no 12)))) ≤ 2 * length t + 50
       go true = omega (arith, body-room p (take (length t - 2) t), length-take (length t - 2) t)
       go false = omega (arith, refused-room 12)
 
@@ -61,7 +61,7 @@ module _ (src : List ℕ) where
   unfolding readResponse
   response-room-at p s = go (utf8 s) (ltb (firstOf crlf s) (length s)) (firstOf crlf s + 2)
     where
-      go : (u k : Bool) (i : ℕ) → length (responseAnswerLine src (cond u (cond k (readRest (p + firstOf crlf s + 2) (drop i s)) (refused 12)) (refused 11))) ≤ 2 * length s + 50
+      go : (u k : Bool) (i : ℕ) → length (responseAnswerLine src (cond u (cond k (readRest (p + firstOf crlf s + 2) (drop i s)) (refused (no 12))) (refused (no 11)))) ≤ 2 * length s + 50
       go true true i = omega (arith, rest-room (p + firstOf crlf s + 2) (drop i s), length-drop i s)
       go true false i = omega (arith, refused-room 12)
       go false k i = omega (arith, refused-room 11)

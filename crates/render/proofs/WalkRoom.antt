@@ -8,7 +8,7 @@ use lib.Dec.{ltb}
 use lib.ListN.{length, drop, length-append}
 use borrow.Author.Tests.{leb-true}
 use Rattle.text.specs.Bytes.{bytes}
-use Rattle.at.specs.Refusal.{OrRefused, good, refused}
+use Rattle.at.specs.Refusal.{numberOf, OrRefused, good, refused}
 use Rattle.at.specs.Event.{Row, nameOf, kindsOf, Value, ReadEvent, eventTo, event}
 use Rattle.at.specs.Line.{readLine}
 use Rattle.at.specs.Binary.{Tried, notBinary, tried, tryRows}
@@ -72,7 +72,7 @@ from-room (suc n) s p l h = go (stepAt s p) refl (from-room n s)
     go end x ih = omega arith
     go (refusedAt k q) x ih =
         let z = refused-there s p k q x in
-        omega (arith, length-append (refusedLine k) (placeLine q), refused-room k, place-room q (omega (arith, z)))
+        omega (arith, length-append (refusedLine (numberOf k)) (placeLine q), refused-room (numberOf k), place-room q (omega (arith, z)))
 
 pub walk-room : (s : List ℕ) → length s < 1000000 → 5 * length (walkLine s (walk s)) ≤ 18 * length s + 300
 unfolding walkAt

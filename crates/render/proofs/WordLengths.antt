@@ -15,7 +15,8 @@ use Rattle.text.specs.Number.{Num, some, none, number}
 use Rattle.text.proofs.Bools.{and-left, and-right}
 use Rattle.text.proofs.DecimalLaws.{decimal-one, decimal-more}
 use Rattle.text.proofs.Spelling.{read-exactly}
-use Rattle.at.specs.Refusal.{good, refused}
+use Rattle.at.specs.declared.FieldError.the-variants.{NotListed}
+use Rattle.at.specs.Refusal.{no, invalid, good, refused}
 use Rattle.at.specs.Event.{Kind, bits, text, ipType, btType, protocol, reason, Value, num, place, listed, isProtocol, isReason, readField}
 use Rattle.render.specs.Refusal.{refusals, refusedLine, frameRefusedLine}
 use Rattle.render.specs.Words.{pairsOf, hexOf, Name, _is_, nameIn, isIPv6, protocols, reasons, numberWord, wordOf, spacedWord, valuesLine}
@@ -88,46 +89,46 @@ extra btType = 0
 extra protocol = 3
 extra reason = 15
 
-listed-number : (q : ℕ → Bool) (x : Num) (v : Value) → listed q x ≡ good v → (n : ℕ) × (x ≡ some n) × (v ≡ num n)
-listed-number q (some n) v e = go (q n) e
+listed-number : (i : ℕ) (q : ℕ → Bool) (x : Num) (v : Value) → listed i q x ≡ good v → (n : ℕ) × (x ≡ some n) × (v ≡ num n)
+listed-number i q (some n) v e = go (q n) e
   where
-    go : (t : Bool) → cond t (good (num n)) (refused 15) ≡ good v → (m : ℕ) × (some n ≡ some m) × (v ≡ num m)
+    go : (t : Bool) → cond t (good (num n)) (refused (invalid i NotListed)) ≡ good v → (m : ℕ) × (some n ≡ some m) × (v ≡ num m)
     go true e = (n, refl, cc)
     go false e = let z : _≡_ {A = ℕ} 0 1 = cc in absurd (omega arith)
-listed-number q none v e = let z : _≡_ {A = ℕ} 0 1 = cc in absurd (omega arith)
+listed-number i q (none why) v e = let z : _≡_ {A = ℕ} 0 1 = cc in absurd (omega arith)
 
-word-within : (k : Kind) (p : ℕ) (b src : List ℕ) (v : Value) → readField k p b ≡ good v → length (wordOf k src v) ≤ 2 * length b + 1 + extra k
+word-within : (i : ℕ) (k : Kind) (p : ℕ) (b src : List ℕ) (v : Value) → readField i k p b ≡ good v → length (wordOf k src v) ≤ 2 * length b + 1 + extra k
 unfolding readField numberWord extra namesWithin isIPv6 protocols reasons
-word-within (bits w) p b src v e =
-    let r = listed-number (λ n. true) (number w b) v e in
+word-within i (bits w) p b src v e =
+    let r = listed-number i (λ n. true) (number w b) v e in
     rw (r .2) (omega (arith, number-shorter w (r .0) b (r .1)))
-word-within text p b src v e = let f : v ≡ place p (length b) = cc in rw f (omega (arith, place-within src p (length b)))
-word-within ipType p b src v e = go (same b (bytes "2")) (same b (bytes "3")) e
+word-within i text p b src v e = let f : v ≡ place p (length b) = cc in rw f (omega (arith, place-within src p (length b)))
+word-within i ipType p b src v e = go (same b (bytes "2")) (same b (bytes "3")) e
   where
-    go : (s t : Bool) → cond s (good (num 2)) (cond t (good (num 3)) (refused 13)) ≡ good v → length (wordOf ipType src v) ≤ 2 * length b + 1 + 0
+    go : (s t : Bool) → cond s (good (num 2)) (cond t (good (num 3)) (refused (no 13))) ≡ good v → length (wordOf ipType src v) ≤ 2 * length b + 1 + 0
     go true t e = let f : v ≡ num 2 = cc in rw f (omega (arith, name-within 1 isIPv6 refl 2))
     go false true e = let f : v ≡ num 3 = cc in rw f (omega (arith, name-within 1 isIPv6 refl 3))
     go false false e = let z : _≡_ {A = ℕ} 0 1 = cc in absurd (omega arith)
-word-within btType p b src v e = go (same b (bytes "1")) refl e
+word-within i btType p b src v e = go (same b (bytes "1")) refl e
   where
-    go : (t : Bool) → same b (bytes "1") ≡ t → cond t (good (num 1)) (refused 13) ≡ good v → length (wordOf btType src v) ≤ 2 * length b + 1 + 0
+    go : (t : Bool) → same b (bytes "1") ≡ t → cond t (good (num 1)) (refused (no 13)) ≡ good v → length (wordOf btType src v) ≤ 2 * length b + 1 + 0
     go true t e = let f : v ≡ num 1 = cc in rw f (omega (arith, decimal-within 0 1 (omega arith)))
     go false t e = let z : _≡_ {A = ℕ} 0 1 = cc in absurd (omega arith)
-word-within protocol p b src v e =
-    let r = listed-number isProtocol (number 8 b) v e in
+word-within i protocol p b src v e =
+    let r = listed-number i isProtocol (number 8 b) v e in
     rw (r .2) (omega (arith, name-within 4 protocols refl (r .0)))
-word-within reason p b src v e =
-    let r = listed-number isReason (number 8 b) v e in
+word-within i reason p b src v e =
+    let r = listed-number i isReason (number 8 b) v e in
     rw (r .2) (omega (arith, name-within 16 reasons refl (r .0)))
 
 -- and with the space before it
-pub spaced-within : (k : Kind) (p : ℕ) (b src : List ℕ) (v : Value) → readField k p b ≡ good v → length (spacedWord k src v) ≤ 2 * suc (length b) + extra k
-spaced-within (bits w) p b src v e = omega (arith, word-within (bits w) p b src v e)
-spaced-within text p b src v e = omega (arith, word-within text p b src v e)
-spaced-within ipType p b src v e = omega (arith, word-within ipType p b src v e)
-spaced-within btType p b src v e = omega arith
-spaced-within protocol p b src v e = omega (arith, word-within protocol p b src v e)
-spaced-within reason p b src v e = omega (arith, word-within reason p b src v e)
+pub spaced-within : (i : ℕ) (k : Kind) (p : ℕ) (b src : List ℕ) (v : Value) → readField i k p b ≡ good v → length (spacedWord k src v) ≤ 2 * suc (length b) + extra k
+spaced-within i (bits w) p b src v e = omega (arith, word-within i (bits w) p b src v e)
+spaced-within i text p b src v e = omega (arith, word-within i text p b src v e)
+spaced-within i ipType p b src v e = omega (arith, word-within i ipType p b src v e)
+spaced-within i btType p b src v e = omega arith
+spaced-within i protocol p b src v e = omega (arith, word-within i protocol p b src v e)
+spaced-within i reason p b src v e = omega (arith, word-within i reason p b src v e)
 
 -- values that have no kind: none, a place first, a number first
 module _ (src : List ℕ) where

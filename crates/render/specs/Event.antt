@@ -4,7 +4,7 @@ use Prim.Native.String.{String}
 use mathlib.Core.List.{List, [], _∷_, _++_}
 use mathlib.Core.Bool.{cond}
 use Rattle.text.specs.Bytes.{bytes, same}
-use Rattle.at.specs.Refusal.{OrRefused, good, refused}
+use Rattle.at.specs.Refusal.{numberOf, OrRefused, good, refused}
 use Rattle.at.specs.Event.{Row, kindsOf, Event, event, ReadEvent, eventTo}
 use Rattle.at.specs.Table.{spelledRow}
 use Rattle.at.specs.W26 as w26
@@ -77,4 +77,4 @@ eventLine cases src (event r vs) = bytes (caseOf cases r) ++ valuesLine (kindsOf
 -- the place just past an event is not printed
 abbrev pub answerLine : List Case → List ℕ → OrRefused ReadEvent → List ℕ
 answerLine cases src (good (eventTo e past)) = eventLine cases src e
-answerLine cases src (refused n) = refusedLine n
+answerLine cases src (refused n) = refusedLine (numberOf n)

@@ -3,7 +3,7 @@ use Prim.Native.Nat.{ℕ}
 use mathlib.Core.List.{List, [], _∷_, _++_}
 use lib.ListN.{take, drop}
 use Rattle.text.specs.Bytes.{bytes}
-use Rattle.at.specs.Refusal.{OrRefused, good, refused}
+use Rattle.at.specs.Refusal.{numberOf, OrRefused, good, refused}
 use Rattle.edm.specs.Packet.{Packet, connectEvent, disconnectEvent, dataPacket, dataCommand, atRequest, atResponse, atPacket, resendPacket, startPacket}
 use Rattle.render.specs.Words.{valuesLine}
 use Rattle.render.specs.Refusal.{frameRefusedLine}
@@ -24,4 +24,4 @@ packetLine src startPacket = bytes "StartEvent"
 
 abbrev pub frameLine : List ℕ → OrRefused Packet → List ℕ
 frameLine src (good p) = packetLine src p
-frameLine src (refused n) = frameRefusedLine n
+frameLine src (refused n) = frameRefusedLine (numberOf n)

@@ -7,3 +7,4 @@ pub mod Frame
 pub mod Walk
 pub mod Written
 pub mod Steps
+pub mod Why

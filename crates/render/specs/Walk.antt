@@ -3,6 +3,7 @@ use Prim.Native.Nat.{ℕ}
 use mathlib.Core.List.{List, _++_}
 use Rattle.text.specs.Bytes.{bytes}
 use Rattle.text.specs.Decimal.{decimal}
+use Rattle.at.specs.Refusal.{numberOf}
 use Rattle.at.specs.Binary.{Tried, notBinary, tried}
 use Rattle.at.specs.Walk.{Step, one, end, refusedAt, Walk, eventThen, thenEnd, thenRefused}
 use Rattle.render.specs.Refusal.{refusedLine}
@@ -19,7 +20,7 @@ placeLine p = bytes " @" ++ decimal p
 abbrev pub stepLine : List ℕ → Step → List ℕ
 stepLine src (one e past) = eventLine cases36 src e ++ placeLine past
 stepLine src end = bytes "end"
-stepLine src (refusedAt n p) = refusedLine n ++ placeLine p
+stepLine src (refusedAt n p) = refusedLine (numberOf n) ++ placeLine p
 
 -- every step, with a semicolon between two
 unfoldable pub walkLine : List ℕ → Walk → List ℕ

@@ -9,5 +9,6 @@ pub mod refusal;
 pub mod response;
 pub mod w26;
 pub mod w36;
+pub mod why;
 pub mod word;
 pub mod written;

@@ -50,8 +50,8 @@ fn at_number(e: AtPacketError) -> usize
         AtPacketError::Utf8DecodeFailed => 11,
         AtPacketError::FramingDecodeFailed => 12,
         AtPacketError::TypeDecodeUnsupported => 13,
-        AtPacketError::TypeDecodeParameterMissing => 14,
-        AtPacketError::TypeDecodeParameterDataTypeInvalid => 15,
+        AtPacketError::TypeDecodeParameterMissing { field: _ } => 14,
+        AtPacketError::TypeDecodeParameterDataTypeInvalid { field: _, why: _ } => 15,
         AtPacketError::EventUnknown => 16,
     }
 }

@@ -9,12 +9,11 @@ use lib.ListN.{length, take, drop, getD, length-drop}
 use borrow.Author.Tests.{ltb-true}
 use Rattle.text.specs.Bytes.{bytes, same}
 use Rattle.text.specs.Find.{firstOf}
-use Rattle.text.specs.Number.{Num, some, none}
 use Rattle.replay.specs.declared.question.Writer.the-variants as writer
 use Rattle.replay.specs.declared.question.Kind.{Kind}
 use Rattle.replay.specs.declared.question.Kind.the-variants as kind
 use Rattle.replay.specs.Hex.{digitOf, isDigit, Spelt, spells, noHex, prepend, pairs, someBytes, bytesIn}
-use Rattle.replay.specs.Question.{Cut, cut, whole, atSpace, Sized, sized, unsized, followedBy, ofCut, numberIn, numberThen, Asked, reads, writes, resends, nothing, withSize, withChannel, withSizeAndChannel, withSizeAlone, byKind, byWord, kindOf, words, asked}
+use Rattle.replay.specs.Question.{Amount, amount, noAmount, Cut, cut, whole, atSpace, Sized, sized, unsized, followedBy, ofCut, numberIn, numberThen, Asked, reads, writes, resends, nothing, withSize, withChannel, withSizeAndChannel, withSizeAlone, byKind, byWord, kindOf, words, asked}
 
 -- The bytes that a text spells, of two digits each; none where it is no hex
 
@@ -92,9 +91,9 @@ number-shorter : (s : List ℕ) → length (afterNumber (numberThen s)) ≤ leng
 unfolding numberThen
 number-shorter s = go (atSpace s) (space-shorter s)
   where
-    some-or-none : (n : Num) (rest : List ℕ) → length (afterNumber (followedBy n rest)) ≤ length rest
-    some-or-none (some n) rest = omega arith
-    some-or-none none rest = omega arith
+    some-or-none : (n : Amount) (rest : List ℕ) → length (afterNumber (followedBy n rest)) ≤ length rest
+    some-or-none (amount n) rest = omega arith
+    some-or-none noAmount rest = omega arith
 
     go : (c : Cut) → length (afterCut c) ≤ length s → length (afterNumber (ofCut c)) ≤ length s
     go (cut front rest) h = omega (arith, some-or-none (numberIn front) rest)
@@ -122,9 +121,9 @@ kind-shorter kind.Data rest = go (numberThen rest) (number-shorter rest)
     go unsized h = h
 kind-shorter kind.Resend rest = go (numberIn rest)
   where
-    go : (n : Num) → length (hexAsked (withSizeAlone n)) ≤ length rest
-    go (some size) = omega arith
-    go none = omega arith
+    go : (n : Amount) → length (hexAsked (withSizeAlone n)) ≤ length rest
+    go (amount size) = omega arith
+    go noAmount = omega arith
 kind-shorter kind.Unknown rest = omega arith
 
 pub asked-shorter : (line : List ℕ) → length (hexAsked (asked line)) ≤ length line

@@ -11,10 +11,11 @@ use lib.Seq.{drop-cons, drop-drop}
 use borrow.Author.Tests.{le-leb, lt-leb, lt-ltb, le-ltb, ltb-false}
 use Rattle.text.specs.Bytes.{bytes, part}
 use Rattle.text.specs.Find.{firstOf, firstFrom}
-use Rattle.text.specs.Number.{some, none, isDigit, digitsFrom}
+use Rattle.text.specs.Number.{none, isDigit, digitsFrom}
+use Rattle.text.specs.declared.number.NumberError.the-variants.{Byte}
 use Rattle.text.specs.declared.find.Found.the-variants.{At, Nothing}
 use Rattle.text.proofs.FindLaws.{from-at}
-use Rattle.replay.specs.Question.{capped, numberIn, cut, whole, atSpace}
+use Rattle.replay.specs.Question.{amount, noAmount, capped, numberIn, cut, whole, atSpace}
 
 -- numbers that are capped alike stay so with a digit more
 module _ (s : List ℕ) where
@@ -26,35 +27,35 @@ module _ (s : List ℕ) where
       go [] h = absurd (omega arith)
       go (b ∷ t) h = refl
 
-  pub none-empty : length s ≡ 0 → numberIn s ≡ none
+  pub none-empty : length s ≡ 0 → numberIn s ≡ noAmount
   unfolding numberIn
   none-empty h = go s h
     where
-      go : (t : List ℕ) → length t ≡ 0 → numberIn t ≡ none
+      go : (t : List ℕ) → length t ≡ 0 → numberIn t ≡ noAmount
       go [] h = refl
       go (b ∷ t) h = absurd (omega arith)
 
 capped-same : (v w : ℕ) (s : List ℕ) → min v 1000000 ≡ min w 1000000 → capped (digitsFrom v s) ≡ capped (digitsFrom w s)
 unfolding digitsFrom
-capped-same v w [] e = ap some e
+capped-same v w [] e = ap amount e
 capped-same v w (b ∷ s) e = go (isDigit b) (capped-same (v * 10 + (b - 48)) (w * 10 + (b - 48)) s (omega arith))
   where
     go : (k : Bool) → capped (digitsFrom (v * 10 + (b - 48)) s) ≡ capped (digitsFrom (w * 10 + (b - 48)) s)
-        → capped (cond k (digitsFrom (v * 10 + (b - 48)) s) none) ≡ capped (cond k (digitsFrom (w * 10 + (b - 48)) s) none)
+        → capped (cond k (digitsFrom (v * 10 + (b - 48)) s) (none Byte)) ≡ capped (cond k (digitsFrom (w * 10 + (b - 48)) s) (none Byte))
     go true ih = ih
     go false ih = refl
 
 module _ (v : ℕ) (s : List ℕ) (i : ℕ) where
-  pub capped-end : length s ≤ i → v ≤ 1000000 → capped (digitsFrom v (drop i s)) ≡ some v
+  pub capped-end : length s ≤ i → v ≤ 1000000 → capped (digitsFrom v (drop i s)) ≡ amount v
   unfolding digitsFrom
-  capped-end h l = rw (drop-of-length-le s {i = i} h) (let z : min v 1000000 ≡ v = omega arith in ap some z)
+  capped-end h l = rw (drop-of-length-le s {i = i} h) (let z : min v 1000000 ≡ v = omega arith in ap amount z)
 
   module _ (h : i < length s) where
-    pub capped-low : getD s i 0 < 48 → capped (digitsFrom v (drop i s)) ≡ none
+    pub capped-low : getD s i 0 < 48 → capped (digitsFrom v (drop i s)) ≡ noAmount
     unfolding digitsFrom
     capped-low l = rw (drop-cons s i 0 h, lt-leb 48 (getD s i 0) l)
 
-    pub capped-high : 57 < getD s i 0 → capped (digitsFrom v (drop i s)) ≡ none
+    pub capped-high : 57 < getD s i 0 → capped (digitsFrom v (drop i s)) ≡ noAmount
     unfolding digitsFrom
     capped-high l = rw (drop-cons s i 0 h, le-leb 48 (getD s i 0) (omega arith), lt-leb (getD s i 0) 57 l)
 

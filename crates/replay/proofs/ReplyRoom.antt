@@ -10,7 +10,7 @@ use lib.ListN.{length, getD, length-append}
 use borrow.Author.Tests.{leb-true}
 use Rattle.text.specs.Bytes.{bytes, part}
 use Rattle.text.specs.Decimal.{decimal}
-use Rattle.at.specs.Refusal.{OrRefused, good, refused}
+use Rattle.at.specs.Refusal.{no, numberOf, OrRefused, good, refused}
 use Rattle.at.specs.Event.{ReadEvent, eventTo, event}
 use Rattle.at.specs.Line.{readLine}
 use Rattle.at.specs.W26.{w26}
@@ -29,6 +29,7 @@ use Rattle.render.proofs.LineRoom.{w26-room, w36-room, binary-room}
 use Rattle.render.proofs.ResponseRoom.{response-room}
 use Rattle.render.proofs.FrameRoom.{frame-room}
 use Rattle.render.proofs.WalkRoom.{walk-room}
+use Rattle.render.proofs.WhyRoom.{why-26-room, why-36-room, why-binary-room, why-frame-room}
 use Rattle.replay.specs.declared.question.Reader.{Reader}
 use Rattle.replay.specs.declared.question.Reader.the-variants as reader
 use Rattle.replay.specs.declared.question.Writer.{Writer}
@@ -47,6 +48,10 @@ read-room reader.W36 s h b = omega (arith, w36-room s)
 read-room reader.Binary s h b = omega (arith, binary-room s)
 read-room reader.Walk36 s h b = omega (arith, walk-room s (omega arith))
 read-room reader.Response s h b = omega (arith, response-room s)
+read-room reader.WhyFrame s h b = omega (arith, why-frame-room s b)
+read-room reader.Why26 s h b = omega (arith, why-26-room s)
+read-room reader.Why36 s h b = omega (arith, why-36-room s)
+read-room reader.WhyBinary s h b = omega (arith, why-binary-room s)
 
 -- bytes that were written
 wrote-room : (f : List ℕ) → length f ≤ 131072 → length (wroteLine f (length f)) ≤ 475135
@@ -67,7 +72,7 @@ packet-room size s p = go (command.toWrite size s p) refl
     go (good f) e =
         let x = framed size s p f e in
         wrote-room f (rw (x .frames) (omega (arith, frame-length (x .id) (x .payload), x .short)))
-    go (refused n) e = omega (arith, frame-refused-room n)
+    go (refused n) e = omega (arith, frame-refused-room (numberOf n))
 
 -- an event that is written again is no longer than the buffer
 again-room : (size : ℕ) (s : List ℕ) (a : OrRefused ReadEvent) → size ≤ 131072 → length (againReply size s a) ≤ 475135
@@ -76,11 +81,11 @@ again-room size s (good (eventTo (event r vs) past)) h =
     let l = lineOf r (contentsOf s vs) in
     go (write.writable s r vs) l (leb (length l) size) refl
   where
-    go : (w : Bool) (l : List ℕ) (k : Bool) → leb (length l) size ≡ k → length (writtenLine refusedLine (cond w (cond k (good l) (refused 18)) (refused 17))) ≤ 475135
+    go : (w : Bool) (l : List ℕ) (k : Bool) → leb (length l) size ≡ k → length (writtenLine refusedLine (cond w (cond k (good l) (refused (no 18))) (refused (no 17)))) ≤ 475135
     go true l true e = wrote-room l (omega (arith, leb-true (length l) size e))
     go true l false e = omega (arith, refused-room 18)
     go false l k e = omega (arith, refused-room 17)
-again-room size s (refused n) h = omega (arith, refused-room n)
+again-room size s (refused n) h = omega (arith, refused-room (numberOf n))
 
 write-room : (w : Writer) (size : ℕ) (s : List ℕ) → size ≤ 131072 → length (writeReply w size s) ≤ 475135
 write-room (writer.Data c) size s h = packet-room size s (packet.DataCommand (record { 0 = c }) (wholeOf s))

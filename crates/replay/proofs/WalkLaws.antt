@@ -3,6 +3,7 @@ use Prim.Native.Nat.{ℕ}
 use mathlib.Core.Path.{_≡_}
 use mathlib.Core.List.{List, _++_}
 use Rattle.text.specs.Bytes.{bytes}
+use Rattle.at.specs.Refusal.{Refusal}
 use Rattle.at.specs.Event.{Event}
 use Rattle.at.specs.Walk.{one, end, refusedAt, stepAt, walkAt}
 use Rattle.at.proofs.WalkLaws.{walk-on}
@@ -17,6 +18,6 @@ module _ (s : List ℕ) (p : ℕ) where
   unfolding walkLine
   walk-ended e = rw (walk-on s p, ← e)
 
-  pub walk-refused : (n q : ℕ) → refusedAt n q ≡ stepAt s p → walkLine s (walkAt s p) ≡ stepLine s (refusedAt n q)
+  pub walk-refused : (n : Refusal) (q : ℕ) → refusedAt n q ≡ stepAt s p → walkLine s (walkAt s p) ≡ stepLine s (refusedAt n q)
   unfolding walkLine
   walk-refused n q e = rw (walk-on s p, ← e)

@@ -1,5 +1,6 @@
 -- What a line asks: a word, a space, and what the word takes.
 --   frame, w26, w36, binary, walk36, response   HEX
+--   whyframe, why26, why36, whybinary           HEX
 --   request, again26, again36                   SIZE HEX
 --   data                                        SIZE CHANNEL HEX
 --   resend                                      SIZE
@@ -31,6 +32,10 @@ words =
     ∷ ("binary" asks kind.Read reader.Binary)
     ∷ ("walk36" asks kind.Read reader.Walk36)
     ∷ ("response" asks kind.Read reader.Response)
+    ∷ ("whyframe" asks kind.Read reader.WhyFrame)
+    ∷ ("why26" asks kind.Read reader.Why26)
+    ∷ ("why36" asks kind.Read reader.Why36)
+    ∷ ("whybinary" asks kind.Read reader.WhyBinary)
     ∷ ("data" asks kind.Data)
     ∷ ("request" asks kind.Write writer.Request)
     ∷ ("resend" asks kind.Resend)
@@ -50,13 +55,18 @@ pub data Cut : Type 0 where
 unfoldable pub atSpace : List ℕ → Cut
 atSpace s = cond (ltb (firstOf (bytes " ") s) (length s)) (cut (take (firstOf (bytes " ") s) s) (drop (firstOf (bytes " ") s + 1) s)) whole
 
--- digits alone; what is over a million counts as a million, which is more than any use of it allows
-abbrev pub capped : Num → Num
-capped (some n) = some (min n 1000000)
-capped none = none
+-- digits alone, or something else
+pub data Amount : Type 0 where
+  amount : ℕ → Amount
+  noAmount : Amount
 
-unfoldable pub numberIn : List ℕ → Num
-numberIn [] = none
+-- what is over a million counts as a million, which is more than any use of it allows
+abbrev pub capped : Num → Amount
+capped (some n) = amount (min n 1000000)
+capped (none why) = noAmount
+
+unfoldable pub numberIn : List ℕ → Amount
+numberIn [] = noAmount
 numberIn (b ∷ s) = capped (digitsFrom 0 (b ∷ s))
 
 -- a number up to the first space, and what follows that
@@ -64,9 +74,9 @@ pub data Sized : Type 0 where
   sized : ℕ → List ℕ → Sized
   unsized : Sized
 
-abbrev pub followedBy : Num → List ℕ → Sized
-followedBy (some n) rest = sized n rest
-followedBy none rest = unsized
+abbrev pub followedBy : Amount → List ℕ → Sized
+followedBy (amount n) rest = sized n rest
+followedBy noAmount rest = unsized
 
 abbrev pub ofCut : Cut → Sized
 ofCut (cut n rest) = followedBy (numberIn n) rest
@@ -94,9 +104,9 @@ abbrev pub withSizeAndChannel : Sized → Asked
 withSizeAndChannel (sized size rest) = withChannel size (numberThen rest)
 withSizeAndChannel unsized = nothing
 
-abbrev pub withSizeAlone : Num → Asked
-withSizeAlone (some size) = resends size
-withSizeAlone none = nothing
+abbrev pub withSizeAlone : Amount → Asked
+withSizeAlone (amount size) = resends size
+withSizeAlone noAmount = nothing
 
 abbrev pub byKind : Kind → List ℕ → Asked
 byKind (kind.Read r) rest = reads r rest

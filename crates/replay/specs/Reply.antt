@@ -7,7 +7,7 @@ use lib.ListN.{length, take, drop}
 use Rattle.text.specs.Bytes.{bytes, same, startsWith, every}
 use Rattle.text.specs.Decimal.{decimal}
 use Rattle.at.specs.declared.Text.{Text}
-use Rattle.at.specs.Refusal.{OrRefused, good, refused}
+use Rattle.at.specs.Refusal.{numberOf, OrRefused, good, refused}
 use Rattle.at.specs.Event.{Event, ReadEvent, eventTo}
 use Rattle.at.specs.Line.{readLine}
 use Rattle.at.specs.Binary.{tryRows}
@@ -26,6 +26,7 @@ use Rattle.render.specs.Refusal.{refusedLine, frameRefusedLine}
 use Rattle.render.specs.Response.{responseAnswerLine}
 use Rattle.render.specs.Frame.{frameLine}
 use Rattle.render.specs.Walk.{triedLine, walkLine}
+use Rattle.render.specs.Why.{whyLine, whyTriedLine, whyFrameLine}
 use Rattle.render.specs.Written.{wroteLine}
 use Rattle.replay.specs.declared.question.Reader.{Reader}
 use Rattle.replay.specs.declared.question.Reader.the-variants as reader
@@ -42,11 +43,15 @@ readReply reader.W36 s = render.answerLine cases36 s (readLine w36 0 s)
 readReply reader.Binary s = triedLine s (tryRows binaryTable 0 s)
 readReply reader.Walk36 s = walkLine s (walk s)
 readReply reader.Response s = responseAnswerLine s (readResponse 0 s)
+readReply reader.WhyFrame s = whyFrameLine s (readFrame s)
+readReply reader.Why26 s = whyLine cases26 s (readLine w26 0 s)
+readReply reader.Why36 s = whyLine cases36 s (readLine w36 0 s)
+readReply reader.WhyBinary s = whyTriedLine s (tryRows binaryTable 0 s)
 
 -- what was written, or the refusal, whose line is `refusal`
 abbrev pub writtenLine : (ℕ → List ℕ) → OrRefused (List ℕ) → List ℕ
 writtenLine refusal (good w) = wroteLine w (length w)
-writtenLine refusal (refused n) = refusal n
+writtenLine refusal (refused n) = refusal (numberOf n)
 
 -- the place of all of the bytes s
 abbrev pub wholeOf : List ℕ → Text
@@ -61,7 +66,7 @@ eventReply size s e = writtenLine refusedLine (write.toWrite size s e)
 -- an event that was read from s, written again
 abbrev pub againReply : ℕ → List ℕ → OrRefused ReadEvent → List ℕ
 againReply size s (good (eventTo e past)) = eventReply size s e
-againReply size s (refused n) = refusedLine n
+againReply size s (refused n) = refusedLine (numberOf n)
 
 -- the bytes s, written into a buffer of a size: a command made of them, or the event that they hold
 abbrev pub writeReply : Writer → ℕ → List ℕ → List ℕ

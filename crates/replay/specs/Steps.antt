@@ -2,7 +2,6 @@
 use Prim.Native.Nat.{ℕ, _≤_}
 use mathlib.Core.List.{List}
 use lib.ListN.{take, drop}
-use Rattle.text.specs.Number.{Num, some, none}
 use Rattle.replay.specs.declared.decode.Decoded.{Decoded}
 use Rattle.replay.specs.declared.decode.Decoded.the-variants as decoded
 use Rattle.replay.specs.declared.decode.Number.{Number}
@@ -11,7 +10,7 @@ use Rattle.replay.specs.declared.question.Sized as code
 use Rattle.replay.specs.declared.question.Question.{Question}
 use Rattle.replay.specs.declared.question.Question.the-variants as question
 use Rattle.replay.specs.Hex.{Spelt, spells, noHex}
-use Rattle.replay.specs.Question.{Sized, sized, unsized, Asked, reads, writes, resends, nothing}
+use Rattle.replay.specs.Question.{Amount, amount, noAmount, Sized, sized, unsized, Asked, reads, writes, resends, nothing}
 
 -- the bytes that were put at the start of a buffer, or that the text spells none
 abbrev pub spelt : List ℕ → Decoded → Spelt
@@ -23,9 +22,9 @@ abbrev pub Roomy : ℕ → Decoded → Type 0
 Roomy room (decoded.Bytes n) = n ≤ room
 Roomy room decoded.Refused = 0 ≤ room
 
-abbrev pub numberOf : Number → Num
-numberOf (number.Value n) = some n
-numberOf number.Refused = none
+abbrev pub amountOf : Number → Amount
+amountOf (number.Value n) = amount n
+amountOf number.Refused = noAmount
 
 -- what the answers about a line say: their places count from its start
 abbrev pub sizedOf : List ℕ → code.Sized → Sized

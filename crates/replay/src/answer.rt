@@ -51,6 +51,15 @@ fn read(output: &mut [u8], place: usize, src: &[u8], reader: Reader) -> usize
             src,
             at::response::read(src, 0),
         ),
+        Reader::WhyFrame => render::why::frame(output, place, src, edm::frame::read(src)),
+        Reader::Why26 => render::why::w26(output, place, src, at::w26::read(src, 0)),
+        Reader::Why36 => render::why::w36(output, place, src, at::w36::read(src, 0)),
+        Reader::WhyBinary => render::why::binary(
+            output,
+            place,
+            src,
+            at::w36::try_parse_binary(src, 0),
+        ),
     }
 }
 

@@ -5,7 +5,7 @@ ghost use mathlib.Core.Path.{_≡_};
 ghost use lib.ListN.{length};
 ghost use Rattle.replay.specs.Hex.{digitOf, pairs as pairsIn, bytesIn};
 ghost use Rattle.replay.specs.Question.{numberIn};
-ghost use Rattle.replay.specs.Steps.{spelt, Roomy, numberOf};
+ghost use Rattle.replay.specs.Steps.{spelt, Roomy, amountOf};
 
 // How many bytes were put, or that the text spells none.
 pub(crate) enum Decoded {
@@ -91,7 +91,7 @@ fn longer(n: usize, digit: u8) -> usize
 
 // One or more digits, and nothing else.
 pub(crate) fn decimal(s: &[u8]) -> Number
-    ensures { λ r. ⌜ numberOf r ≡ numberIn (now (s .entry)) ⌝ }
+    ensures { λ r. ⌜ amountOf r ≡ numberIn (now (s .entry)) ⌝ }
 {
     if s.len() == 0 {
         return Number::Refused;

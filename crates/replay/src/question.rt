@@ -17,6 +17,10 @@ pub(crate) enum Reader {
     Binary,
     Walk36,
     Response,
+    WhyFrame,
+    Why26,
+    Why36,
+    WhyBinary,
 }
 
 pub(crate) enum Writer {
@@ -73,6 +77,25 @@ fn kind_of(name: &[u8]) -> Kind
     if same(name, b"response") {
         return Kind::Read(Reader::Response);
     }
+    if same(name, b"whyframe") {
+        return Kind::Read(Reader::WhyFrame);
+    }
+    if same(name, b"why26") {
+        return Kind::Read(Reader::Why26);
+    }
+    if same(name, b"why36") {
+        return Kind::Read(Reader::Why36);
+    }
+    if same(name, b"whybinary") {
+        return Kind::Read(Reader::WhyBinary);
+    }
+    writing_kind_of(name)
+}
+
+// The words after those that read.
+fn writing_kind_of(name: &[u8]) -> Kind
+    ensures { λ r. ⌜ r ≡ kindOf (drop 10 words) (now (name .entry)) ⌝ }
+{
     if same(name, b"data") {
         return Kind::Data;
     }

@@ -4,6 +4,7 @@ use crate::show::hex;
 use crate::show::line;
 use crate::show::number;
 use crate::show::quoted;
+use crate::show::refused;
 use crate::show::say;
 use crate::show::wrote;
 use crate::show::yes_or_no;
@@ -43,9 +44,7 @@ pub(crate) fn in_8_bits(s: &[u8]) {
     say(b": ");
     match text::number::read8(s) {
         Number8::Value(n) => number(n as usize),
-        Number8::Refused => {
-            say(b"refused");
-        }
+        Number8::Refused(e) => refused(e),
     }
     line();
 }
@@ -56,9 +55,7 @@ pub(crate) fn in_16_bits(s: &[u8]) {
     say(b": ");
     match text::number::read16(s) {
         Number16::Value(n) => number(n as usize),
-        Number16::Refused => {
-            say(b"refused");
-        }
+        Number16::Refused(e) => refused(e),
     }
     line();
 }
@@ -69,9 +66,7 @@ pub(crate) fn in_32_bits(s: &[u8]) {
     say(b": ");
     match text::number::read32(s) {
         Number32::Value(n) => number(n as usize),
-        Number32::Refused => {
-            say(b"refused");
-        }
+        Number32::Refused(e) => refused(e),
     }
     line();
 }

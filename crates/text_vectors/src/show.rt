@@ -1,6 +1,7 @@
 // What the program writes: texts, bytes in hex, numbers, answers.
 use libc::STDOUT_FILENO;
 use text::find::Found;
+use text::number::NumberError;
 use text::put::Wrote;
 
 // Whether all of `s` was written. Where it was not, a line on standard error says why.
@@ -52,6 +53,21 @@ pub(crate) fn hex(s: &[u8]) {
         let two = [b' ', digit(b / 16), digit(b % 16)];
         say(&two);
         i += 1;
+    }
+}
+
+// Why a text is no number.
+pub(crate) fn refused(e: NumberError) {
+    match e {
+        NumberError::Empty => {
+            say(b"refused empty");
+        }
+        NumberError::Byte => {
+            say(b"refused byte");
+        }
+        NumberError::Large => {
+            say(b"refused large");
+        }
     }
 }
 

@@ -14,7 +14,7 @@ use Rattle.text.specs.Field.{Field}
 use Rattle.text.proofs.Bools.{and-left, and-right}
 use Rattle.text.proofs.BytesLaws.{same-self, same-equal}
 use Rattle.text.proofs.FieldJoin.{cellsFrom}
-use Rattle.at.specs.Refusal.{good, refused}
+use Rattle.at.specs.Refusal.{good, refused, no}
 use Rattle.at.specs.Event.{Row, nameOf, kindsOf, Value, num, place, Event, readField, takeKind, takeKinds, readRow, bits}
 use Rattle.at.specs.Line.{rowsNamed, byType, byName}
 use Rattle.at.specs.W26 as w26
@@ -83,12 +83,12 @@ in-either (q ∷ rows) l r i = ⊎-elim (λ e. inl (inl e)) (λ m. ⊎-elim (λ 
 
 -- the type of a Bluetooth peer is none of an IP peer (13)
 bluetooth-passed : (src : List ℕ) (vs : List Value) (p : ℕ) (more : List Field) → TextValues (kindsOf w26.UUDPC-BT) vs
-    → readRow w26.UUDPC (fieldsBack src p vs more) ≡ refused 13
+    → readRow w26.UUDPC (fieldsBack src p vs more) ≡ refused (no 13)
 unfolding readRow takeKinds takeKind cellsFrom
 bluetooth-passed src [] p more h = absurd h
 bluetooth-passed src (v ∷ []) p more h = absurd (h .1)
 bluetooth-passed src (v ∷ place s l ∷ vs) p more h = absurd (h .1 .0)
-bluetooth-passed src (v ∷ num n ∷ vs) p more h = rw (field-back src (bits 16) p v (h .0), h .1 .0) (unfold readField decimal digitsOf same in refl)
+bluetooth-passed src (v ∷ num n ∷ vs) p more h = rw (field-back src 1 (bits 16) p v (h .0), h .1 .0) (unfold readField decimal digitsOf same in refl)
 
 pub decides-w26 : Decides w26.table
 unfolding byType

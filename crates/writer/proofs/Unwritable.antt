@@ -9,7 +9,7 @@ use contract.Lifetimes.{Lfts}
 use denote.Triple.Clauses.{AtExit}
 use denote.Enum.Laws.{owed}
 use borrow.Fn.Kinds.{Dens, GoodsP, endedOf}
-use Rattle.at.specs.Refusal.{refused}
+use Rattle.at.specs.Refusal.{refused, no}
 use Rattle.at.specs.Event.{Row, kindsOf, Value, event}
 use Rattle.at.specs.W26 as w26
 use Rattle.at.proofs.w26.ATEvent as type26
@@ -34,7 +34,7 @@ one-is-enough src (u ∷ us) ws v h = go (writableField false src u) (one-is-eno
     go true ih = ih
     go false ih = refl
 
-not-written : (room : ℕ) (src : List ℕ) (r : Row) (vs : List Value) → TextValues (kindsOf r) vs → writableFields false src vs ≡ false → toWrite room src (event r vs) ≡ refused 17
+not-written : (room : ℕ) (src : List ℕ) (r : Row) (vs : List Value) → TextValues (kindsOf r) vs → writableFields false src vs ≡ false → toWrite room src (event r vs) ≡ refused (no 17)
 unfolding toWrite
 not-written room src r vs t h =
     let e : writable src r vs ≡ writableFields false src vs = rw (append-nil vs) at (writable-parts src r vs [] t) in

@@ -5,7 +5,7 @@ use mathlib.Core.Bool.{cond}
 use lib.Dec.{leb}
 use lib.ListN.{length, take, drop, getD}
 use Rattle.text.specs.Find.{crlf}
-use Rattle.at.specs.Refusal.{OrRefused, refused}
+use Rattle.at.specs.Refusal.{OrRefused, refused, no}
 use Rattle.at.specs.Event.{Value, num}
 use Rattle.writer.specs.Line.{contentOf, contentsOf, written, afterName, ending}
 use Rattle.writer.specs.Write.{writableEnd, fitted}
@@ -21,7 +21,7 @@ abbrev pub lineAs : List ℕ → List ℕ → ℕ → List Value → List ℕ
 lineAs src name n vs = crlf ++ name ++ afterName (fieldTexts src n vs) ++ ending (drop n (contentsOf src vs))
 
 abbrev pub writeAs : ℕ → List ℕ → List ℕ → ℕ → List Value → OrRefused (List ℕ)
-writeAs size src name n vs = cond (writableEnd src (take n vs) (drop n vs)) (fitted size (lineAs src name n vs)) (refused 17)
+writeAs size src name n vs = cond (writableEnd src (take n vs) (drop n vs)) (fitted size (lineAs src name n vs)) (refused (no 17))
 
 -- the data, where there are any, have a length of two bytes
 abbrev pub SmallData : List ℕ → ℕ → List Value → Type 0

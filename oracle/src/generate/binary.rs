@@ -85,13 +85,13 @@ fn drop_last_comma(out: &mut Vec<u8>, start: usize) {
     }
 }
 
-fn push_marker(rng: &mut Rng, flawed: bool, out: &mut Vec<u8>) {
+pub fn push_marker(rng: &mut Rng, flawed: bool, out: &mut Vec<u8>) {
     let odd: [&[u8]; 4] = [b"", b"\x02", b"\xC3\x01", b"\x01\x01"];
     out.extend_from_slice(if flawed { rng.pick(&odd) } else { b"\x01" });
 }
 
 /// The two length bytes and the data.
-fn push_data(rng: &mut Rng, flaws: Flaws, out: &mut Vec<u8>) {
+pub fn push_data(rng: &mut Rng, flaws: Flaws, out: &mut Vec<u8>) {
     let start = out.len();
     let count = if rng.one_in(60) { 250 + rng.below(12) } else { rng.below(8) };
     let mut length = count as u16;

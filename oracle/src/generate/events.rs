@@ -2,71 +2,7 @@
 
 use super::{pieces, Flaws};
 use crate::rng::Rng;
-
-/// What a field holds.
-#[derive(Clone, Copy)]
-pub enum Field {
-    Number8,
-    Number16,
-    Number32,
-    Text,
-    Type,
-    TypeBluetooth,
-    Protocol,
-    Reason,
-}
-
-use Field::{Number16, Number32, Number8, Protocol, Reason, Text, Type, TypeBluetooth};
-
-type Row = (&'static str, &'static [Field]);
-
-pub const W26: [Row; 27] = [
-    ("+UUDPC", &[Number16, Type, Protocol, Text, Number16, Text, Number16]),
-    ("+UUDPD", &[Number16]),
-    ("+UUWLE", &[Number16, Text, Number16]),
-    ("+UUWLD", &[Number16, Reason]),
-    ("+UUWAPU", &[Number16]),
-    ("+UUWAPD", &[Number16]),
-    ("+UUWAPSTAC", &[Number16, Text]),
-    ("+UUWAPSTAD", &[Number16]),
-    ("+UUETHLU", &[]),
-    ("+UUETHLD", &[]),
-    ("+UUNU", &[Number16]),
-    ("+UUND", &[Number16]),
-    // The Rust's name of this event, and u-blox's.
-    ("UUNERR", &[Number16, Number16]),
-    ("+UUNERR", &[Number16, Number16]),
-    // The lines of Bluetooth, which the Rust does not read.
-    ("+UUDATA", &[Number16, Number16]),
-    ("+UUDPC", &[Number16, TypeBluetooth, Number8, Text, Number16]),
-    ("+UUBTB", &[Text, Number8]),
-    ("+UUBTUC", &[Text, Number32]),
-    ("+UUBTUPD", &[Text, Number32]),
-    ("+UUBTUPE", &[Text]),
-    ("+UUBTACLC", &[Number16, Number8, Text]),
-    ("+UUBTACLD", &[Number16]),
-    ("+UUBTGRR", &[Number16, Number16]),
-    ("+UUBTGRW", &[Number16, Number16, Text, Number8]),
-    ("+UUBTGIC", &[Number16, Number16]),
-    ("+UUBTGN", &[Number16, Number16, Text]),
-    ("+UUBTGI", &[Number16, Number16, Text]),
-];
-
-pub const W36: [Row; 13] = [
-    ("+UESOC", &[Number8]),
-    ("+UESOCL", &[Number8]),
-    ("+UESODA", &[Number8, Number16]),
-    ("+UEWLU", &[Number16, Text, Number16]),
-    ("+UEWLD", &[Number16, Number16]),
-    ("+UEWAPSA", &[Text]),
-    ("+UEWAPSDA", &[Text]),
-    ("+UEWAPU", &[]),
-    ("+UEWAPD", &[]),
-    ("+UEWSNU", &[]),
-    ("+UEWSND", &[]),
-    ("+UEWAPNU", &[]),
-    ("+UEWAPND", &[]),
-];
+use crate::table::{Field, Row, W26, W36};
 
 const LEAD: u32 = 0;
 const NAME: u32 = 1;
@@ -102,12 +38,16 @@ fn pick_row(rng: &mut Rng, rows: &[Row]) -> Row {
 
 fn push_name(rng: &mut Rng, name: &str, flawed: bool, out: &mut Vec<u8>) {
     let other = ["", "+", "+UESODB", "+UESODBF", "+UESO", "+UU", "AT", "\n+UUNU", "\u{e9}"];
+    let bare = name.trim_start_matches('+');
+    // Half of these lines have the Rust's name of the event in place of u-blox's.
+    if name == "+UUNERR" && rng.one_in(2) {
+        return out.extend_from_slice(bare.as_bytes());
+    }
     if !flawed {
-        out.extend_from_slice(name.as_bytes());
-        return;
+        return out.extend_from_slice(name.as_bytes());
     }
     match rng.below(7) {
-        0 => out.extend_from_slice(name.trim_start_matches('+').as_bytes()),
+        0 => out.extend_from_slice(bare.as_bytes()),
         1 => out.extend_from_slice(name.to_lowercase().as_bytes()),
         2 => out.extend_from_slice(&name.as_bytes()[..name.len() - 1]),
         3 => out.extend_from_slice(W26[rng.below(W26.len())].0.as_bytes()),
@@ -141,16 +81,22 @@ fn push_fields(rng: &mut Rng, fields: &[Field], flaws: Flaws, out: &mut Vec<u8>)
     }
 }
 
-fn push_field(rng: &mut Rng, field: Field, bad_number: bool, bad_text: bool, out: &mut Vec<u8>) {
+pub fn push_field(
+    rng: &mut Rng,
+    field: Field,
+    bad_number: bool,
+    bad_text: bool,
+    out: &mut Vec<u8>,
+) {
     let (odd, good): (&[&str], &[&str]) = match field {
-        Number8 => return pieces::number(rng, 255, bad_number, out),
-        Number16 => return pieces::number(rng, 65_535, bad_number, out),
-        Number32 => return pieces::number(rng, 4_294_967_295, bad_number, out),
-        Text => return pieces::text(rng, bad_text, out),
-        Type => (&["", "1", "02", "+2", "4", "2 ", "33", "0"], &["2", "3"]),
-        TypeBluetooth => (&["", "01", "+1", "1 ", "11", "10", "2", "3"], &["1"]),
-        Protocol => (&["0", "3", "4", "5", "7", "", "256", "x"], &["1", "2", "6", "+06"]),
-        Reason => (&["6", "7", "255", "256", "", "-0", "05x"], &["0", "1", "2", "3", "4", "5"]),
+        Field::Number(bits) => return pieces::number(rng, (1 << bits) - 1, bad_number, out),
+        Field::Text => return pieces::text(rng, bad_text, out),
+        Field::TypeIp => (&["", "1", "02", "+2", "4", "2 ", "33", "0"], &["2", "3"]),
+        Field::TypeBluetooth => (&["", "01", "+1", "1 ", "11", "10", "2", "3"], &["1"]),
+        Field::Protocol => (&["0", "3", "4", "5", "7", "", "256", "x"], &["1", "2", "6", "+06"]),
+        Field::DisconnectReason => {
+            (&["6", "7", "255", "256", "", "-0", "05x"], &["0", "1", "2", "3", "4", "5"])
+        }
     };
     // Codes are few among the fields, so they go wrong a little more often.
     let words = if bad_number || rng.one_in(20) { odd } else { good };
@@ -159,7 +105,7 @@ fn push_field(rng: &mut Rng, field: Field, bad_number: bool, bad_text: bool, out
 }
 
 /// Fields that no row has: they are ignored, whatever they hold.
-fn push_more(rng: &mut Rng, out: &mut Vec<u8>) {
+pub fn push_more(rng: &mut Rng, out: &mut Vec<u8>) {
     for _ in 0..1 + rng.below(3) {
         out.push(b',');
         let odd = rng.one_in(3);
@@ -167,7 +113,7 @@ fn push_more(rng: &mut Rng, out: &mut Vec<u8>) {
     }
 }
 
-fn push_end(rng: &mut Rng, flawed: bool, out: &mut Vec<u8>) {
+pub fn push_end(rng: &mut Rng, flawed: bool, out: &mut Vec<u8>) {
     let good = ["\r\n\r\n", "\r\n\r\n+UESOC:1\r\n", "\r\n\r\n+UUNU:1\r\n", "\r\n:\r\n", "\n\r\n"];
     let bad: [&[u8]; 8] =
         [b"", b"\r", b"\n", b"\n\r", b"\r\n ", b"\r\n\xFF", b"\r\r\n", b"\r\n\xC3"];

@@ -2,12 +2,13 @@
 
 use super::{events, pieces, responses, Flaws};
 use crate::rng::Rng;
+use crate::table;
 
 const CONNECT: u16 = 0x0011;
 const DISCONNECT: u16 = 0x0021;
 const DATA_EVENT: u16 = 0x0031;
 const DATA_COMMAND: u16 = 0x0036;
-const EVENT: u16 = 0x0041;
+pub const EVENT: u16 = 0x0041;
 const REQUEST: u16 = 0x0044;
 const RESPONSE: u16 = 0x0045;
 const RESEND: u16 = 0x0056;
@@ -107,7 +108,7 @@ fn push_payload(rng: &mut Rng, identifier: u16, flawed: bool, out: &mut Vec<u8>)
             let count = if flawed { 0 } else { 1 + rng.below(10) };
             push_bytes(rng, count, out);
         }
-        EVENT => events::line(rng, &events::W26, out),
+        EVENT => events::line(rng, &table::W26, out),
         RESPONSE => responses::text(rng, out),
         REQUEST if flawed => pieces::not_utf8(rng, out),
         REQUEST => {

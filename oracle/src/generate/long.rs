@@ -1,8 +1,8 @@
 //! Inputs around the largest frame: a payload of 4,093 bytes is the last that a length can hold. And
-//! walks over many events.
+//! walks over many events, and numbers of as many digits.
 
 use super::{frames, walks, writes};
-use crate::record::Call;
+use crate::record::{Call, Reader};
 use crate::rng::Rng;
 
 const LARGEST_PAYLOAD: usize = 4_093;
@@ -15,10 +15,10 @@ const LARGEST_WALK: usize = 131_068;
 
 pub fn make(rng: &mut Rng, out: &mut Vec<u8>) -> Call {
     let payload = LARGEST_PAYLOAD - 2 + rng.below(10);
-    match rng.below(7) {
+    match rng.below(8) {
         0 | 1 => {
             frame(rng, payload, out);
-            Call::Frame
+            Call::Read(Reader::Frame)
         }
         2 => {
             frames::push_bytes(rng, payload - 1, out);
@@ -37,12 +37,13 @@ pub fn make(rng: &mut Rng, out: &mut Vec<u8>) -> Call {
             walks::repeated(rng, size, out);
             Call::Walk36
         }
+        6 => number(rng, payload, out),
         _ => {
             out.extend_from_slice(b"\r\n+UESODB:2\x01");
             out.extend_from_slice(&(payload as u16).to_be_bytes());
             frames::push_bytes(rng, payload, out);
             if rng.one_in(3) {
-                return Call::Binary;
+                return Call::Read(Reader::Binary);
             }
             Call::Again36 { size: size(rng, out.len()) }
         }
@@ -60,6 +61,37 @@ fn frame(rng: &mut Rng, payload: usize, out: &mut Vec<u8>) {
         _ => frames::push_bytes(rng, payload, out),
     }
     frames::close(rng, payload, out);
+}
+
+/// A line with a number of many digits, in a frame for the frame reader.
+fn number(rng: &mut Rng, count: usize, out: &mut Vec<u8>) -> Call {
+    let reader = Reader::ALL[rng.below(Reader::ALL.len())];
+    match reader {
+        Reader::W26 => push_number(rng, b"\r\n+UUDPD:", count, b"\r\n", out),
+        Reader::W36 => push_number(rng, b"\r\n+UESODA:1,", count, b"\r\n", out),
+        Reader::Binary => push_number(rng, b"\r\n+UESODB:", count, b"\x01\x00\x00", out),
+        Reader::Frame => {
+            frames::open(frames::EVENT, out);
+            push_number(rng, b"\r\n+UUBTUC:a,", count, b"\r\n", out);
+            frames::close(rng, count, out);
+        }
+    }
+    Call::Why(reader)
+}
+
+/// Zeros or nines up to the last digit, and in every second number a byte that is not allowed: the
+/// first, the last or any.
+fn push_number(rng: &mut Rng, before: &[u8], count: usize, after: &[u8], out: &mut Vec<u8>) {
+    out.extend_from_slice(before);
+    let (start, digits) = (out.len(), count - before.len() - after.len());
+    let digit = if rng.one_in(2) { b'0' } else { b'9' };
+    out.resize(start + digits - 1, digit);
+    out.push(b'7');
+    if rng.one_in(2) {
+        let at = [0, digits - 1, rng.below(digits)][rng.below(3)];
+        out[start + at] = [b'x', b' ', b'-', b'+'][rng.below(4)];
+    }
+    out.extend_from_slice(after);
 }
 
 fn size(rng: &mut Rng, need: usize) -> usize {

@@ -1,5 +1,6 @@
 //! Random questions. A seed gives the same lines on every machine.
 
+mod aimed;
 mod binary;
 mod damage;
 mod events;
@@ -10,11 +11,15 @@ mod responses;
 mod walks;
 mod writes;
 
-use crate::record::{self, Call};
+use crate::record::{self, Call, Reader};
 use crate::rng::Rng;
+use crate::table;
 
 /// One line in this many is long (about 4,100 bytes); the others have some dozens of bytes.
 const LONG: usize = 400;
+
+/// One input in this many of those that a reader reads is asked about with the field and the reason.
+const WHY: usize = 6;
 
 /// Up to two things in which a line or frame departs from a good one. Most lines have none, so that
 /// every event is read often, and the others show one refusal at a time.
@@ -52,37 +57,41 @@ impl Maker {
     pub fn line(&mut self, out: &mut Vec<u8>) {
         let (rng, bytes) = (&mut self.rng, &mut self.bytes);
         bytes.clear();
-        let call = if rng.one_in(LONG) { long::make(rng, bytes) } else { make(rng, bytes) };
+        let mut call = if rng.one_in(LONG) { long::make(rng, bytes) } else { make(rng, bytes) };
+        if let (Call::Read(reader), true) = (call, rng.one_in(WHY)) {
+            call = Call::Why(reader);
+        }
         record::push(out, call, bytes);
     }
 }
 
 fn make(rng: &mut Rng, bytes: &mut Vec<u8>) -> Call {
     let call = match rng.below(100) {
-        0..=17 => {
-            events::line(rng, &events::W26, bytes);
-            Call::W26
+        0..=15 => {
+            events::line(rng, &table::W26, bytes);
+            Call::Read(Reader::W26)
         }
-        18..=31 => {
-            events::line(rng, &events::W36, bytes);
-            Call::W36
+        16..=27 => {
+            events::line(rng, &table::W36, bytes);
+            Call::Read(Reader::W36)
         }
-        32..=41 => {
+        28..=36 => {
             binary::line(rng, bytes);
-            Call::Binary
+            Call::Read(Reader::Binary)
         }
-        42..=53 => {
+        37..=47 => {
             walks::buffer(rng, bytes);
             Call::Walk36
         }
-        54..=61 => {
+        48..=54 => {
             responses::text(rng, bytes);
             Call::Response
         }
-        62..=79 => {
+        55..=70 => {
             frames::frame(rng, bytes);
-            Call::Frame
+            Call::Read(Reader::Frame)
         }
+        71..=82 => aimed::make(rng, bytes),
         _ => writes::make(rng, bytes),
     };
     if rng.one_in(12) {

@@ -2,6 +2,7 @@
 
 use super::{binary, events, pieces, Flaws};
 use crate::rng::Rng;
+use crate::table;
 
 /// At most so many events of each kind.
 const MOST: usize = 3;
@@ -19,7 +20,7 @@ pub fn buffer(rng: &mut Rng, out: &mut Vec<u8>) {
         if is_binary {
             binary::event(rng, flaws, out);
         } else {
-            events::line_with(rng, &events::W36, flaws, out);
+            events::line_with(rng, &table::W36, flaws, out);
         }
     }
     if rng.one_in(10) {

@@ -3,6 +3,7 @@
 use super::{binary, events, frames, pieces};
 use crate::record::Call;
 use crate::rng::Rng;
+use crate::table;
 
 pub fn make(rng: &mut Rng, out: &mut Vec<u8>) -> Call {
     match rng.below(22) {
@@ -17,13 +18,13 @@ pub fn make(rng: &mut Rng, out: &mut Vec<u8>) -> Call {
         }
         10 => Call::Resend { size: size(rng, 6) },
         11..=15 => {
-            events::line(rng, &events::W26, out);
+            events::line(rng, &table::W26, out);
             insert_cr(rng, out);
             Call::Again26 { size: size(rng, out.len()) }
         }
         n => {
             if n < 19 {
-                events::line(rng, &events::W36, out);
+                events::line(rng, &table::W36, out);
             } else {
                 binary::line(rng, out);
             }

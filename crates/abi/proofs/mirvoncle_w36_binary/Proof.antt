@@ -1,26 +1,16 @@
--- `mirvoncle_w36_binary` meets its contract by that of `at::w36::try_parse_binary`. Assumes nothing.
+-- `mirvoncle_w36_binary` meets its contract by that of `mirvoncle_w36_binary_why`. Assumes nothing.
+use Rattle.at.specs.Binary.{tryRows}
+use Rattle.at.specs.W36.{binaryTable}
+use mathlib.Core.Path.{_∙_}
+use Rattle.abi.proofs.Numbers.{binary-ok}
+use Rattle.abi.proofs.CodeLaws.{binary-lowest}
 use borrow.Author.Needs.{needs}
 use Rattle.abi.proofs.mirvoncle_w36_binary.Statement.{statement}
 use Rattle.abi.proofs.mirvoncle_w36_binary.Tie as tie
 
 returns : tie.Need-returns
-returns c = rw (← c .before .before .try-parse-binary .ensures, c .enum-told .given .1)
-
-returns-2 : tie.Need-returns-2
-returns-2 c = rw (← c .before .before .try-parse-binary .ensures, c .enum-told2 .given .1)
-
-returns-3 : tie.Need-returns-3
-returns-3 c = rw (← c .before .before .before .before .try-parse-binary .ensures, c .before .before .e .given .1) (c .at-number .ensures)
+returns c = let s = c .before .before .before .args .s .now in c .plain .ensures ∙ rw (c .before .mirvoncle-w36-binary-why .ensures) (binary-lowest (tryRows binaryTable 0 s) (binary-ok binaryTable 0 s))
 
 pub mirvoncle-w36-binary-spec : {M : Type 1} → statement M
 mirvoncle-w36-binary-spec =
-    tie.close
-    (tie.spec
-    (λ c κs. search needs)
-    (λ c. search needs)
-    (λ c. search needs)
-    (λ c. search needs)
-    (λ c κs. search needs)
-    returns
-    returns-2
-    returns-3)
+    tie.close (tie.spec (λ c κs. search needs) (λ c κs. search needs) returns)

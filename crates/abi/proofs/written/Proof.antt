@@ -1,30 +1,22 @@
 -- `written` meets its contract. Assumes nothing.
+use Rattle.edm.specs.Refusal.{refusalOf}
+use Rattle.abi.proofs.CodeLaws.{refusal-lowest, frame-known}
 use borrow.Author.Needs.{needs}
 use Rattle.abi.proofs.written.Statement.{statement}
 use Rattle.abi.proofs.written.Tie as tie
 
-enum-known-a : tie.Need-enum-known-a
-enum-known-a c = search needs
-
-enum-known-a-2 : tie.Need-enum-known-a-2
-enum-known-a-2 c = search needs
-
-number-requires : tie.Need-number-requires
-number-requires c κs = search needs
-
-cast-result : tie.Need-cast-result
-cast-result c = search needs
-
-add-result : tie.Need-add-result
-add-result c = search needs
-
-returns : tie.Need-returns
-returns c = search needs
-
 returns-2 : tie.Need-returns-2
-returns-2 c = rw (c .before .before .a2 .given .1, c .number .ensures)
+returns-2 c = let e = c .before .before .before .a2 .given .0 .0 in rw (c .before .before .before .a2 .given .1, c .plain .ensures, c .before .of-frame .ensures, refusal-lowest (refusalOf e) (frame-known e))
 
 pub written-spec : {M : Type 1} → statement M
 written-spec =
     tie.close
-    (tie.spec enum-known-a enum-known-a-2 number-requires cast-result add-result returns returns-2)
+    (tie.spec
+    (λ c. search needs)
+    (λ c. search needs)
+    (λ c κs. search needs)
+    (λ c κs. search needs)
+    (λ c. search needs)
+    (λ c. search needs)
+    (λ c. search needs)
+    returns-2)

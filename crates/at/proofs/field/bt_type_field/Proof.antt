@@ -12,5 +12,5 @@ bt-type-field-spec =
     (λ c. search needs)
     (λ c κs. search needs)
     (λ c κs. search needs)
-    (λ c p. rw (c .number .ensures, ← c .before .before .same .ensures, c .before .if1 .taken))
-    (λ c p. rw (← c .before .same .ensures, c .if1 .left)))
+    (λ c i p. rw (c .number .ensures, ← c .before .before .same .ensures, c .before .if1 .taken))
+    (λ c i p. rw (← c .before .same .ensures, c .if1 .left)))

@@ -10,13 +10,13 @@ use Rattle.at.proofs.field.byte_field.Tie as tie
 
 returns : tie.Need-returns
 unfolding readField
-returns c = λ p.
+returns c = λ i p.
     let read = c .before .before .before .before .read8 .ensures in
     rw (c .number .ensures, ← read, c .before .before .n .given .1, kept 8 _ (number-fits 8 _ _ (sym read ∙ ap shown8 (c .before .before .n .given .1))))
 
 returns-2 : tie.Need-returns-2
 unfolding readField
-returns-2 c = λ p. rw (← c .before .before .read8 .ensures, c .enum-told .given .1)
+returns-2 c = λ i p. rw (← c .before .before .before .read8 .ensures, c .before .e .given .1)
 
 pub byte-field-spec : {M : Type 1} → statement M
 byte-field-spec =

@@ -20,9 +20,9 @@ reason-back (suc (suc (suc (suc zero)))) h = refl
 reason-back (suc (suc (suc (suc (suc zero))))) h = refl
 reason-back (suc (suc (suc (suc (suc (suc n)))))) h = absurd (omega arith)
 
-returns-2 : tie.Need-returns-2
+returns : tie.Need-returns
 unfolding readField
-returns-2 c = λ p.
+returns c = λ i p.
     let h : c .before .before .before .n .given .0 .0 ≤ 5 = omega arith in
     rw (c .number .ensures, ← c .before .before .before .before .before .read8 .ensures, c .before .before .before .n .given .1, le-leb _ 5 h, reason-back _ h)
 
@@ -34,8 +34,8 @@ reason-field-spec =
     (λ c κs. search needs)
     (λ c. search needs)
     (λ c. search needs)
-    (λ c p. rw (← c .before .before .read8 .ensures, c .enum-told .given .1))
-    (λ c. search needs)
     (λ c κs. search needs)
-    returns-2
-    (λ c p. rw (← c .before .before .before .before .read8 .ensures, c .before .before .n .given .1, lt-leb _ 5 (c .if1 .left))))
+    (λ c. search needs)
+    returns
+    (λ c i p. rw (← c .before .before .before .before .read8 .ensures, c .before .before .n .given .1, lt-leb _ 5 (c .if1 .left)))
+    (λ c i p. rw (← c .before .before .before .read8 .ensures, c .before .e .given .1)))

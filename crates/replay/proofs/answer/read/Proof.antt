@@ -21,6 +21,18 @@ returns-5 c = rw (c .before .before .before .before .enum-told5 .given .1) (c .b
 returns-6 : tie.Need-returns-6
 returns-6 c = rw (c .before .before .before .before .before .enum-told6 .given .1, ← c .before .before .before .read4 .ensures) (c .before .before .answer4 .ensures)
 
+returns-7 : tie.Need-returns-7
+returns-7 c = rw (c .before .before .before .before .before .enum-told7 .given .1, ← c .before .before .before .read5 .ensures) (c .before .before .frame .ensures)
+
+returns-8 : tie.Need-returns-8
+returns-8 c = rw (c .before .before .before .before .before .enum-told8 .given .1, ← c .before .before .before .read6 .ensures) (c .before .before .w26 .ensures)
+
+returns-9 : tie.Need-returns-9
+returns-9 c = rw (c .before .before .before .before .before .enum-told9 .given .1, ← c .before .before .before .read7 .ensures) (c .before .before .w36 .ensures)
+
+returns-10 : tie.Need-returns-10
+returns-10 c = rw (c .before .before .before .before .before .enum-told10 .given .1, ← c .before .before .before .try-parse-binary2 .ensures) (c .before .before .binary .ensures)
+
 pub read-spec : {M : Type 1} → statement M
 read-spec =
     tie.close
@@ -43,6 +55,18 @@ read-spec =
     (λ c κs. search needs)
     (λ c κs. search needs)
     (λ c. search needs)
+    (λ c κs. search needs)
+    (λ c κs. search needs)
+    (λ c. search needs)
+    (λ c κs. search needs)
+    (λ c κs. search needs)
+    (λ c. search needs)
+    (λ c κs. search needs)
+    (λ c κs. search needs)
+    (λ c. search needs)
+    (λ c κs. search needs)
+    (λ c κs. search needs)
+    (λ c. search needs)
     returns
     (λ c. search needs)
     returns-2
@@ -53,4 +77,12 @@ read-spec =
     (λ c. search needs)
     returns-5
     (λ c. search needs)
-    returns-6)
+    returns-6
+    (λ c. search needs)
+    returns-7
+    (λ c. search needs)
+    returns-8
+    (λ c. search needs)
+    returns-9
+    (λ c. search needs)
+    returns-10)

@@ -46,10 +46,6 @@ past10 : (c : tie.Else10) → kindOf words (c .before .before .before .before .b
 unfolding words kindOf
 past10 c = past9 (c .before .before .before) ∙ rw (← c .before .same10 .ensures, c .if10 .left)
 
-past11 : (c : tie.Else11) → kindOf words (c .before .before .before .before .before .before .before .before .before .before .before .before .before .before .before .before .before .before .before .before .before .before .before .before .before .before .before .before .before .before .before .before .before .before .args .name .now) ≡ kindOf (drop 11 words) (c .before .before .before .before .before .before .before .before .before .before .before .before .before .before .before .before .before .before .before .before .before .before .before .before .before .before .before .before .before .before .before .before .before .before .args .name .now)
-unfolding words kindOf
-past11 c = past10 (c .before .before .before) ∙ rw (← c .before .same11 .ensures, c .if11 .left)
-
 returns : tie.Need-returns
 unfolding words kindOf
 returns c = rw (← c .before .same .ensures, c .if1 .taken)
@@ -91,12 +87,7 @@ unfolding words kindOf
 returns-10 c = sym (past9 (c .before .before .before) ∙ rw (← c .before .same10 .ensures, c .if10 .taken))
 
 returns-11 : tie.Need-returns-11
-unfolding words kindOf
-returns-11 c = sym (past10 (c .before .before .before) ∙ rw (← c .before .same11 .ensures, c .if11 .taken))
-
-returns-12 : tie.Need-returns-12
-unfolding words kindOf
-returns-12 c = sym (past11 c)
+returns-11 c = c .writing-kind-of .ensures ∙ sym (past10 (c .before))
 
 pub kind-of-spec : {M : Type 1} → statement M
 kind-of-spec =
@@ -132,7 +123,5 @@ kind-of-spec =
     (λ c. search needs)
     (λ c κs. search needs)
     returns-10
-    (λ c. search needs)
     (λ c κs. search needs)
-    returns-11
-    returns-12)
+    returns-11)

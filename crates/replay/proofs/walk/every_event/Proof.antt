@@ -5,7 +5,7 @@ use mathlib.Core.Path.{_≡_, refl, sym, ap, _∙_}
 use mathlib.Core.List.{List}
 use native.Mathlib.Omega.{arith}
 use lib.ListN.{length}
-use Rattle.at.specs.Refusal.{refusalNo}
+use Rattle.at.specs.Refusal.{refusalOf}
 use Rattle.at.specs.W36.{eventOf}
 use Rattle.at.specs.Walk.{shown, walkAt, walk as walkOver}
 use Rattle.at.proofs.WalkLaws.{event-moves}
@@ -63,7 +63,7 @@ returns-2 : tie.Need-returns-2 Inv-loop μ-loop
 returns-2 c = let near = c .before .before .before .before .before .before in
     let l = near .before .loop in
     let got = c .enum-told2 .given in
-    let line = walk-refused (near .before .before .before .before .before .args .src .now) (l .walk .at) (refusalNo (got .0 .0)) (got .0 .1 .0) (ap shown (sym (got .1)) ∙ near .next .ensures) in
+    let line = walk-refused (near .before .before .before .before .before .args .src .now) (l .walk .at) (refusalOf (got .0 .0)) (got .0 .1 .0) (ap shown (sym (got .1)) ∙ near .next .ensures) in
     l .inv .1 _ _ (rw line (rw (got .1) at (c .before .before .before .before .step .ensures)))
 
 pub every-event-spec : {M : Type 1} → statement M

@@ -1,0 +1,14 @@
+-- `mirvoncle_frame_why` meets its contract by that of `edm::frame::read`. Assumes nothing.
+use borrow.Author.Needs.{needs}
+use Rattle.abi.proofs.mirvoncle_frame_why.Statement.{statement}
+use Rattle.abi.proofs.mirvoncle_frame_why.Tie as tie
+
+returns : tie.Need-returns
+returns c = rw (← c .before .before .read .ensures, c .enum-told .given .1)
+
+returns-2 : tie.Need-returns-2
+returns-2 c = rw (← c .before .before .before .before .read .ensures, c .before .before .e .given .1) (c .of-frame .ensures)
+
+pub mirvoncle-frame-why-spec : {M : Type 1} → statement M
+mirvoncle-frame-why-spec =
+    tie.close (tie.spec (λ c κs. search needs) (λ c. search needs) (λ c. search needs) (λ c κs. search needs) returns returns-2)
