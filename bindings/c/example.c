@@ -17,6 +17,18 @@ static void read_as(const char *what, uint8_t code)
     }
 }
 
+/* Which field, and why, by the words of `replay`. */
+static void read_why(const char *what, uint32_t why)
+{
+    static const char *const reasons[] = {"", " empty", " byte", " large", " list"};
+
+    printf("%s: refused %u", what, (unsigned)MIRVONCLE_NUMBER(why));
+    if (MIRVONCLE_FIELD(why) != 0) {
+        printf(" field %u%s", (unsigned)MIRVONCLE_FIELD(why), reasons[MIRVONCLE_REASON(why)]);
+    }
+    printf("\n");
+}
+
 static void written_as(const char *what, const uint8_t *buf, size_t code)
 {
     size_t i;
@@ -47,6 +59,12 @@ int main(void)
     read_as("W36 binary +UEWSNU", mirvoncle_w36_binary(LENT("\r\n+UEWSNU\r\n")));
     read_as("response +A OK", mirvoncle_response(LENT("\r\n+A\r\nOK\r\n")));
     read_as("response without CR LF", mirvoncle_response(LENT("OK")));
+    read_why("W26 protocol 9", mirvoncle_w26_why(LENT("\r\n+UUDPC:1,2,9,a,1,b,2\r\n")));
+    read_why("W26 +UUDPD:65536", mirvoncle_w26_why(LENT("\r\n+UUDPD:65536\r\n")));
+    read_why("W36 +UESODA:1", mirvoncle_w36_why(LENT("\r\n+UESODA:1\r\n")));
+    read_why("W36 line without a name", mirvoncle_w36_why(LENT("\r\n\r\n")));
+    read_why("W36 binary +UESODB:2,7", mirvoncle_w36_binary_why(LENT("\r\n+UESODB:2,7\x01\x00\x00")));
+    read_why("frame with +UUND:", mirvoncle_frame_why(LENT("\xAA\x00\x0C\x00\x41\r\n+UUND:\r\n\x55")));
     printf("UTF-8 before a surrogate: %u\n", (unsigned)mirvoncle_utf8_prefix(LENT("A\xED\xA0\x80")));
 
     written_as("data on channel 3", buf, mirvoncle_write_data(buf, sizeof buf, 3, LENT("A")));

@@ -38,6 +38,15 @@ enum mirvoncle_refusal {
     MIRVONCLE_EventUnknown = 16
 };
 
+/* Why a field is of wrong form: it has no byte; a byte of it is not allowed, which is no digit and no plus in front of a digit; every byte
+ * is allowed, and the number is too large for its width; the number is not in the field's list (protocol, W26 reason). */
+enum mirvoncle_reason {
+    MIRVONCLE_REASON_EMPTY = 1,
+    MIRVONCLE_REASON_BYTE = 2,
+    MIRVONCLE_REASON_LARGE = 3,
+    MIRVONCLE_REASON_LIST = 4
+};
+
 /* What mirvoncle_w36_binary gives for bytes that are no binary event at all. */
 #define MIRVONCLE_NOT_BINARY 255
 
@@ -54,6 +63,17 @@ uint8_t mirvoncle_w26(const uint8_t *s, size_t s_len);
 uint8_t mirvoncle_w36(const uint8_t *s, size_t s_len);
 uint8_t mirvoncle_w36_binary(const uint8_t *s, size_t s_len);
 uint8_t mirvoncle_response(const uint8_t *s, size_t s_len);
+
+/* The same reads, which also say which field a technician has to look at. The lowest byte of what they return is what the call above returns;
+ * refusals 14 and 15 carry the field too, counted from 1, and 15 also carries the reason. What is not carried is 0. */
+uint32_t mirvoncle_frame_why(const uint8_t *s, size_t s_len);
+uint32_t mirvoncle_w26_why(const uint8_t *s, size_t s_len);
+uint32_t mirvoncle_w36_why(const uint8_t *s, size_t s_len);
+uint32_t mirvoncle_w36_binary_why(const uint8_t *s, size_t s_len);
+
+#define MIRVONCLE_NUMBER(why) ((uint8_t)((why) & 0xFF))
+#define MIRVONCLE_FIELD(why) ((uint8_t)((why) >> 8 & 0xFF))
+#define MIRVONCLE_REASON(why) ((uint8_t)((why) >> 16))
 
 /* How many bytes stand before the first sequence that is not UTF-8; s_len where there is none. */
 size_t mirvoncle_utf8_prefix(const uint8_t *s, size_t s_len);

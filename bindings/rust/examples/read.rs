@@ -1,6 +1,6 @@
 //! Every call once or twice, on examples of document 01. read.stdout holds what it prints.
 
-use mirvoncle::{Binary, Refusal};
+use mirvoncle::{Binary, Refusal, Why};
 
 fn read_as(what: &str, outcome: Result<(), Refusal>) {
     match outcome {
@@ -27,6 +27,13 @@ fn binary_as(what: &str, outcome: Result<Binary, Refusal>) {
     }
 }
 
+fn why_as<T>(what: &str, outcome: Result<T, Why>) {
+    match outcome {
+        Ok(_) => println!("{what}: accepted"),
+        Err(why) => println!("{what}: {why}"),
+    }
+}
+
 fn main() {
     read_as("start frame", mirvoncle::frame(b"\xAA\x00\x02\x00\x71\x55"));
     read_as("frame with a wrong length", mirvoncle::frame(b"\xAA\x00\x05\x00\x31\x01\x07\x55"));
@@ -39,6 +46,13 @@ fn main() {
     binary_as("W36 binary +UEWSNU", mirvoncle::w36_binary(b"\r\n+UEWSNU\r\n"));
     read_as("response +A OK", mirvoncle::response(b"\r\n+A\r\nOK\r\n"));
     read_as("response without CR LF", mirvoncle::response(b"OK"));
+    why_as("W26 protocol 9", mirvoncle::w26_why(b"\r\n+UUDPC:1,2,9,a,1,b,2\r\n"));
+    why_as("W26 +UUDPD:65536", mirvoncle::w26_why(b"\r\n+UUDPD:65536\r\n"));
+    why_as("W36 +UESODA:1", mirvoncle::w36_why(b"\r\n+UESODA:1\r\n"));
+    why_as("W36 line without a name", mirvoncle::w36_why(b"\r\n\r\n"));
+    why_as("W36 binary +UESODB:2,7", mirvoncle::w36_binary_why(b"\r\n+UESODB:2,7\x01\x00\x00"));
+    let event = b"\xAA\x00\x0C\x00\x41\r\n+UUND:\r\n\x55";
+    why_as("frame with +UUND:", mirvoncle::frame_why(event));
     println!("UTF-8 before a surrogate: {}", mirvoncle::utf8_prefix(b"A\xED\xA0\x80"));
 
     let mut buf = [0; 16];

@@ -12,6 +12,10 @@ extern "C" {
     fn mirvoncle_w36(s: *const u8, s_len: usize) -> u8;
     fn mirvoncle_w36_binary(s: *const u8, s_len: usize) -> u8;
     fn mirvoncle_response(s: *const u8, s_len: usize) -> u8;
+    fn mirvoncle_frame_why(s: *const u8, s_len: usize) -> u32;
+    fn mirvoncle_w26_why(s: *const u8, s_len: usize) -> u32;
+    fn mirvoncle_w36_why(s: *const u8, s_len: usize) -> u32;
+    fn mirvoncle_w36_binary_why(s: *const u8, s_len: usize) -> u32;
     fn mirvoncle_utf8_prefix(s: *const u8, s_len: usize) -> usize;
     fn mirvoncle_write_data(
         buf: *mut u8,
@@ -30,6 +34,7 @@ extern "C" {
 }
 
 type Reader = unsafe extern "C" fn(*const u8, usize) -> u8;
+type WhyReader = unsafe extern "C" fn(*const u8, usize) -> u32;
 
 /// What `mirvoncle_w36_binary` gives for bytes that are no binary event at all.
 const NOT_BINARY: u8 = 255;
@@ -102,6 +107,86 @@ impl fmt::Display for Refusal {
 
 impl std::error::Error for Refusal {}
 
+/// Why a field is of wrong form.
+#[derive(Clone, Copy, Debug, PartialEq, Eq, Hash)]
+#[repr(u8)]
+pub enum Reason {
+    /// It has no byte.
+    Empty = 1,
+    /// A byte of it is not allowed: it is no digit and no plus in front of a digit.
+    Byte = 2,
+    /// Every byte is allowed, and the number is too large for its width.
+    Large = 3,
+    /// The number is not in the field's list (protocol, W26 reason).
+    List = 4,
+}
+
+impl Reason {
+    /// Every reason, by its number.
+    pub const ALL: [Reason; 4] = [Reason::Empty, Reason::Byte, Reason::Large, Reason::List];
+
+    fn words(self) -> &'static str {
+        match self {
+            Reason::Empty => "it is empty",
+            Reason::Byte => "it has a byte that is not allowed",
+            Reason::Large => "the number is too large",
+            Reason::List => "the number is not in the list",
+        }
+    }
+}
+
+/// A refusal, with the field that it carries. Fields are counted from 1.
+#[derive(Clone, Copy, Debug, PartialEq, Eq, Hash)]
+pub enum Why {
+    /// Any refusal but the two below.
+    Refused(Refusal),
+    /// [`Refusal::TypeDecodeParameterMissing`]
+    Missing { field: u8 },
+    /// [`Refusal::TypeDecodeParameterDataTypeInvalid`]
+    Invalid { field: u8, reason: Reason },
+}
+
+impl Why {
+    /// The refusal without what it carries.
+    pub fn refusal(self) -> Refusal {
+        match self {
+            Why::Refused(refusal) => refusal,
+            Why::Missing { .. } => Refusal::TypeDecodeParameterMissing,
+            Why::Invalid { .. } => Refusal::TypeDecodeParameterDataTypeInvalid,
+        }
+    }
+
+    /// What a number that a call gave says: the refusal in its lowest byte, the field in the next, and
+    /// above both the reason.
+    fn of(code: u32) -> Why {
+        let [number, field, reason, _] = code.to_le_bytes();
+        match Refusal::of(number.into()) {
+            Refusal::TypeDecodeParameterMissing => Why::Missing { field },
+            Refusal::TypeDecodeParameterDataTypeInvalid => {
+                match Reason::ALL.iter().find(|r| **r as u8 == reason) {
+                    Some(reason) => Why::Invalid { field, reason: *reason },
+                    None => panic!("libabi.a gave {reason}, no reason: is it another version?"),
+                }
+            }
+            refusal => Why::Refused(refusal),
+        }
+    }
+}
+
+impl fmt::Display for Why {
+    fn fmt(&self, f: &mut fmt::Formatter<'_>) -> fmt::Result {
+        match self {
+            Why::Refused(refusal) => refusal.fmt(f),
+            Why::Missing { field } => write!(f, "{}: field {field} is missing", self.refusal()),
+            Why::Invalid { field, reason } => {
+                write!(f, "{}: field {field}, {}", self.refusal(), reason.words())
+            }
+        }
+    }
+}
+
+impl std::error::Error for Why {}
+
 /// What bytes are to the reader of binary events, where it does not refuse them.
 #[derive(Clone, Copy, Debug, PartialEq, Eq, Hash)]
 pub enum Binary {
@@ -119,6 +204,14 @@ fn read(reader: Reader, s: &[u8]) -> Result<(), Refusal> {
     match code(reader, s) {
         0 => Ok(()),
         n => Err(Refusal::of(n.into())),
+    }
+}
+
+fn why(reader: WhyReader, s: &[u8]) -> Result<(), Why> {
+    // SAFETY: as in `code`.
+    match unsafe { reader(s.as_ptr(), s.len()) } {
+        0 => Ok(()),
+        code => Err(Why::of(code)),
     }
 }
 
@@ -151,6 +244,31 @@ pub fn w36_binary(s: &[u8]) -> Result<Binary, Refusal> {
         0 => Ok(Binary::Event),
         NOT_BINARY => Ok(Binary::NotBinary),
         n => Err(Refusal::of(n.into())),
+    }
+}
+
+/// As [`frame`], and which field of an event is refused, and why.
+pub fn frame_why(s: &[u8]) -> Result<(), Why> {
+    why(mirvoncle_frame_why, s)
+}
+
+/// As [`w26`], and which field is refused, and why.
+pub fn w26_why(s: &[u8]) -> Result<(), Why> {
+    why(mirvoncle_w26_why, s)
+}
+
+/// As [`w36`], and which field is refused, and why.
+pub fn w36_why(s: &[u8]) -> Result<(), Why> {
+    why(mirvoncle_w36_why, s)
+}
+
+/// As [`w36_binary`], and which field is refused, and why.
+pub fn w36_binary_why(s: &[u8]) -> Result<Binary, Why> {
+    // SAFETY: as in `code`.
+    match unsafe { mirvoncle_w36_binary_why(s.as_ptr(), s.len()) } {
+        0 => Ok(Binary::Event),
+        code if code == NOT_BINARY.into() => Ok(Binary::NotBinary),
+        code => Err(Why::of(code)),
     }
 }
 
