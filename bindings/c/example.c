@@ -17,16 +17,17 @@ static void read_as(const char *what, uint8_t code)
     }
 }
 
-/* Which field, and why, by the words of `replay`. */
+/* Which field, and why, by the words of `replay`; an answer that carries no field as the plain call has it. */
 static void read_why(const char *what, uint32_t why)
 {
     static const char *const reasons[] = {"", " empty", " byte", " large", " list"};
 
-    printf("%s: refused %u", what, (unsigned)MIRVONCLE_NUMBER(why));
-    if (MIRVONCLE_FIELD(why) != 0) {
-        printf(" field %u%s", (unsigned)MIRVONCLE_FIELD(why), reasons[MIRVONCLE_REASON(why)]);
+    if (MIRVONCLE_FIELD(why) == 0) {
+        read_as(what, MIRVONCLE_NUMBER(why));
+    } else {
+        printf("%s: refused %u field %u%s\n", what, (unsigned)MIRVONCLE_NUMBER(why), (unsigned)MIRVONCLE_FIELD(why),
+               reasons[MIRVONCLE_REASON(why)]);
     }
-    printf("\n");
 }
 
 static void written_as(const char *what, const uint8_t *buf, size_t code)

@@ -165,7 +165,7 @@ impl Why {
             Refusal::TypeDecodeParameterDataTypeInvalid => {
                 match Reason::ALL.iter().find(|r| **r as u8 == reason) {
                     Some(reason) => Why::Invalid { field, reason: *reason },
-                    None => panic!("libabi.a gave {reason}, no reason: is it another version?"),
+                    None => panic!("libabi.a gave {reason}, no reason's number: is it another version?"),
                 }
             }
             refusal => Why::Refused(refusal),

@@ -32,7 +32,8 @@ fn written(a: WriteAnswer) -> usize
     }
 }
 
-// Each reader has a call that says why it refuses. The plain call keeps the number alone, so that the reader is called at one place.
+// Each reader that can name a field has a call that says why it refuses. The plain call keeps the number alone, so that the reader is called at one
+// place.
 #[no_mangle]
 pub extern "C" fn mirvoncle_frame_why(s: &[u8]) -> u32
     ensures { λ r. ⌜ r ≡ whyCode (readFrame (now (s .entry))) ⌝ }

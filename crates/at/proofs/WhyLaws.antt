@@ -24,7 +24,7 @@ use Rattle.at.specs.Walk.{orText, readEither, stepFrom, stepAt}
 use Rattle.at.specs.Response.{readRest, readResponse}
 use Rattle.at.specs.Table.{letterOf}
 use Rattle.at.specs.TableSteps.{roomy}
-use Rattle.at.specs.Why.{InList, NotInList, OfForm, WrongForm, Reached, Names, Carries, NamesInLine, NamesInBinary, LineNames, TriedNames, StepNames, UpToSeven, FieldUpToSeven, TriedUpToSeven}
+use Rattle.at.specs.Why.{InList, NotInList, OfForm, WrongForm, Reached, Names, CarriesField, NamesInLine, NamesInBinary, LineNames, TriedNames, StepNames, UpToSeven, FieldUpToSeven, TriedUpToSeven}
 use Rattle.at.specs.declared.FieldError.the-variants.{NoNumber, NotListed}
 use Rattle.at.proofs.RowsLaws.{Each, each-named}
 use Rattle.at.proofs.TableLaws.{rooms}
@@ -131,7 +131,7 @@ fields-say i (k ∷ ks) (field p b ∷ fs) =
 -- an answer to fields that were read by the rows of a name: where it carries a field, by one of them
 abbrev RowsSay : (Row → Type 0) → List Field → OrRefused Event → Type 0
 RowsSay P fs (good e) = Unit {0}
-RowsSay P fs (refused n) = Carries n → (r : Row) × P r × Names 1 n (kindsOf r) fs
+RowsSay P fs (refused n) = CarriesField n → (r : Row) × P r × Names 1 n (kindsOf r) fs
 
 module _ (P : Row → Type 0) (fs : List Field) where
   row-says : (r : Row) → P r → RowsSay P fs (readRow r fs)
@@ -169,14 +169,14 @@ each-numbered [] = tt
 each-numbered (r ∷ rs) = ((0, refl), each-weaken (Numbered rs) (Numbered (r ∷ rs)) (λ q h. (suc (h .0), h .1)) rs (each-numbered rs))
 
 -- an answer that carries no field
-abbrev pub CarriesNothing : {A : Type 0} → OrRefused A → Type 0
-CarriesNothing (good a) = Unit {0}
-CarriesNothing (refused n) = Carries n → ⊥
+abbrev pub CarriesNoField : {A : Type 0} → OrRefused A → Type 0
+CarriesNoField (good a) = Unit {0}
+CarriesNoField (refused n) = CarriesField n → ⊥
 
-framed-plain : (p : ℕ) (s : List ℕ) → CarriesNothing (framed p s)
+framed-plain : (p : ℕ) (s : List ℕ) → CarriesNoField (framed p s)
 unfolding framed ended
 framed-plain p s =
-    either CarriesNothing (utf8 s) (either CarriesNothing (ltb (length s) 2 || insideCharacter s 2) (λ c. c) (either CarriesNothing (endsIn (drop 2 s) crlf) tt (λ c. c))) (λ c. c)
+    either CarriesNoField (utf8 s) (either CarriesNoField (ltb (length s) 2 || insideCharacter s 2) (λ c. c) (either CarriesNoField (endsIn (drop 2 s) crlf) tt (λ c. c))) (λ c. c)
 
 module _ (radio : Radio) (p : ℕ) (line : List ℕ) where
   abbrev name : List ℕ → List ℕ
@@ -198,7 +198,7 @@ module _ (radio : Radio) (p : ℕ) (line : List ℕ) where
         names = r .2;
       }
 
-  framed-says : (b : OrRefused Body) → framed p line ≡ b → CarriesNothing b → LineNames radio p line (upTo (p + radio .spans line) (readFramed radio b))
+  framed-says : (b : OrRefused Body) → framed p line ≡ b → CarriesNoField b → LineNames radio p line (upTo (p + radio .spans line) (readFramed radio b))
   unfolding readText
   framed-says (good (body q t)) f h =
       let fs = fieldsAfter q (radio .kept t) in
@@ -214,13 +214,13 @@ module _ (radio : Radio) (p : ℕ) (line : List ℕ) where
 
 -- A binary event
 
-marker-plain : (t : List ℕ) → CarriesNothing (findMarker t)
+marker-plain : (t : List ℕ) → CarriesNoField (findMarker t)
 unfolding findMarker
-marker-plain t = either CarriesNothing (ltb (firstOf marker t) (length t)) (either CarriesNothing (utf8 (take (firstOf marker t) t)) tt (λ c. c)) (λ c. c)
+marker-plain t = either CarriesNoField (ltb (firstOf marker t) (length t)) (either CarriesNoField (utf8 (take (firstOf marker t) t)) tt (λ c. c)) (λ c. c)
 
-data-plain : (p : ℕ) (t : List ℕ) → CarriesNothing (readData p t)
+data-plain : (p : ℕ) (t : List ℕ) → CarriesNoField (readData p t)
 unfolding readData
-data-plain p t = either CarriesNothing (leb 2 (length t)) (either CarriesNothing (leb (announced t) (length t - 2)) tt (λ c. c)) (λ c. c)
+data-plain p t = either CarriesNoField (leb 2 (length t)) (either CarriesNoField (leb (announced t) (length t - 2)) tt (λ c. c)) (λ c. c)
 
 -- by one row, whose prefix the bytes start with
 module _ (rows : List Row) (p : ℕ) (s : List ℕ) (r : Row) (numbered : Numbered rows r) (starts : startsWith s (prefix r) ≡ true) where
@@ -228,13 +228,13 @@ module _ (rows : List Row) (p : ℕ) (s : List ℕ) (r : Row) (numbered : Number
   after = drop (length (prefix r)) s
 
   with-data-says : (k : ℕ) → findMarker after ≡ good k → (v : OrRefused Read) (d : OrRefused Data)
-      → FieldsSay 1 (kindsOf r) (fieldsUpTo (length (kindsOf r) - 1) (p + length (prefix r)) (take k after)) v → CarriesNothing d → TriedNames rows p s (tried (withData r v d))
+      → FieldsSay 1 (kindsOf r) (fieldsUpTo (length (kindsOf r) - 1) (p + length (prefix r)) (take k after)) v → CarriesNoField d → TriedNames rows p s (tried (withData r v d))
   with-data-says k m (good (values vs fs)) (good (dataAt q n)) h g = tt
   with-data-says k m (good (values vs fs)) (refused n) h g = λ c. absurd (g c)
   with-data-says k m (refused n) d h g = λ c.
       record { row = r; number = numbered .0; listed = numbered .1; prefixed = starts; marked = k; has-marker = m; names = h }
 
-  marked-says : (m : OrRefused ℕ) → findMarker after ≡ m → CarriesNothing m → TriedNames rows p s (tried (readMarked r (p + length (prefix r)) after m))
+  marked-says : (m : OrRefused ℕ) → findMarker after ≡ m → CarriesNoField m → TriedNames rows p s (tried (readMarked r (p + length (prefix r)) after m))
   unfolding readFields
   marked-says (good k) e h =
       let q = p + length (prefix r) in
@@ -269,16 +269,16 @@ step-names s p =
 
 -- A response carries no field
 
-pub response-plain : (p : ℕ) (s : List ℕ) → CarriesNothing (readResponse p s)
+pub response-plain : (p : ℕ) (s : List ℕ) → CarriesNoField (readResponse p s)
 unfolding readResponse readRest
 response-plain p s =
-    either CarriesNothing (utf8 s)
-    (either CarriesNothing (ltb (firstOf crlf s) (length s)) (either CarriesNothing (endsIn (drop (firstOf crlf s + 2) s) crlf) tt (λ c. c)) (λ c. c))
+    either CarriesNoField (utf8 s)
+    (either CarriesNoField (ltb (firstOf crlf s) (length s)) (either CarriesNoField (endsIn (drop (firstOf crlf s + 2) s) crlf) tt (λ c. c)) (λ c. c))
     (λ c. c)
 
 -- The field's number
 
-pub nothing-seven : {A : Type 0} (o : OrRefused A) → CarriesNothing o → FieldUpToSeven o
+pub nothing-seven : {A : Type 0} (o : OrRefused A) → CarriesNoField o → FieldUpToSeven o
 nothing-seven (good a) h = tt
 nothing-seven (refused (no n)) h = tt
 nothing-seven (refused (missing i)) h = absurd (h tt)

@@ -79,10 +79,10 @@ Names first (missing i) ks fs = Reached first i ks fs []
 Names first (invalid i why) ks fs = Wrong first i why ks fs
 
 -- whether a refusal carries a field
-abbrev pub Carries : Refusal → Type 0
-Carries (no n) = ⊥
-Carries (missing i) = Unit {0}
-Carries (invalid i why) = Unit {0}
+abbrev pub CarriesField : Refusal → Type 0
+CarriesField (no n) = ⊥
+CarriesField (missing i) = Unit {0}
+CarriesField (invalid i why) = Unit {0}
 
 -- of a line at the place p: its name is that of a row, by whose kinds its fields were read
 pub record NamesInLine (radio : Radio) (p : ℕ) (line : List ℕ) (n : Refusal) : Type 0 where
@@ -108,17 +108,17 @@ pub record NamesInBinary (rows : List Row) (p : ℕ) (s : List ℕ) (n : Refusal
 -- what the answer to a line says, to a binary event, and a step of the walk at the place p of s
 abbrev pub LineNames : Radio → ℕ → List ℕ → OrRefused ReadEvent → Type 0
 LineNames radio p line (good e) = Unit {0}
-LineNames radio p line (refused n) = Carries n → NamesInLine radio p line n
+LineNames radio p line (refused n) = CarriesField n → NamesInLine radio p line n
 
 abbrev pub TriedNames : List Row → ℕ → List ℕ → Tried → Type 0
 TriedNames rows p s notBinary = Unit {0}
 TriedNames rows p s (tried (good e)) = Unit {0}
-TriedNames rows p s (tried (refused n)) = Carries n → NamesInBinary rows p s n
+TriedNames rows p s (tried (refused n)) = CarriesField n → NamesInBinary rows p s n
 
 abbrev pub StepNames : List ℕ → ℕ → Step → Type 0
 StepNames s p (one e past) = Unit {0}
 StepNames s p end = Unit {0}
-StepNames s p (refusedAt n q) = Carries n → NamesInBinary binaryTable p (drop p s) n ⊎ NamesInLine w36 p (drop p s) n
+StepNames s p (refusedAt n q) = CarriesField n → NamesInBinary binaryTable p (drop p s) n ⊎ NamesInLine w36 p (drop p s) n
 
 -- no row has more than seven fields
 abbrev pub UpToSeven : Refusal → Type 0

@@ -18,7 +18,7 @@ use Rattle.at.specs.Response.{Response, readResponse}
 use Rattle.at.specs.W26.{w26}
 use Rattle.at.specs.Why.{LineNames, FieldUpToSeven}
 use Rattle.at.proofs.TableTests.{roomy-w26}
-use Rattle.at.proofs.WhyLaws.{CarriesNothing, response-plain, line-names, line-seven, nothing-seven}
+use Rattle.at.proofs.WhyLaws.{CarriesNoField, response-plain, line-names, line-seven, nothing-seven}
 use Rattle.edm.specs.Packet.{Carries, connect, disconnect, dataEvent, request, response, atEvent, resend, start, unknown, identifiers, carried, Packet, shown}
 use Rattle.edm.specs.Payload.{byte, word, readConnect, readDisconnect, readDataEvent, readRequest, ofResponse, ofEvent, readPayload}
 use Rattle.edm.specs.Frame.{delimited, lengthField, payload, readFrame}
@@ -28,26 +28,26 @@ use Rattle.edm.proofs.frame.read as read
 
 -- Every payload but a W26 line
 
-of-response : (r : OrRefused Response) → CarriesNothing r → CarriesNothing (ofResponse r)
+of-response : (r : OrRefused Response) → CarriesNoField r → CarriesNoField (ofResponse r)
 of-response (good r) h = tt
 of-response (refused n) h = h
 
 -- what holds of answers that carry no field, and of that to a line, holds of a payload
-module _ (P : OrRefused Packet → Type 0) (plain : (o : OrRefused Packet) → CarriesNothing o → P o) (p : ℕ) (t : List ℕ) where
+module _ (P : OrRefused Packet → Type 0) (plain : (o : OrRefused Packet) → CarriesNoField o → P o) (p : ℕ) (t : List ℕ) where
   payload-by : (c : Carries) → (c ≡ atEvent → P (ofEvent (readLine w26 p t))) → P (readPayload c p t)
   unfolding readConnect readDisconnect readDataEvent readRequest
   payload-by connect line =
-      plain _ (either CarriesNothing (ltb (length t) 2) (λ c. c) (either CarriesNothing (eqb (byte t 1) 2) (either CarriesNothing (eqb (length t) 15) tt (λ c. c)) (λ c. c)))
-  payload-by disconnect line = plain _ (either CarriesNothing (eqb (length t) 1) tt (λ c. c))
-  payload-by dataEvent line = plain _ (either CarriesNothing (ltb (length t) 1) (λ c. c) tt)
-  payload-by request line = plain _ (either CarriesNothing (utf8 t) tt (λ c. c))
+      plain _ (either CarriesNoField (ltb (length t) 2) (λ c. c) (either CarriesNoField (eqb (byte t 1) 2) (either CarriesNoField (eqb (length t) 15) tt (λ c. c)) (λ c. c)))
+  payload-by disconnect line = plain _ (either CarriesNoField (eqb (length t) 1) tt (λ c. c))
+  payload-by dataEvent line = plain _ (either CarriesNoField (ltb (length t) 1) (λ c. c) tt)
+  payload-by request line = plain _ (either CarriesNoField (utf8 t) tt (λ c. c))
   payload-by response line = plain _ (of-response (readResponse p t) (response-plain p t))
   payload-by atEvent line = line refl
   payload-by resend line = plain _ tt
   payload-by start line = plain _ tt
   payload-by unknown line = plain _ (λ c. c)
 
-frame-by : (P : OrRefused Packet → Type 0) → ((o : OrRefused Packet) → CarriesNothing o → P o) → (s : List ℕ)
+frame-by : (P : OrRefused Packet → Type 0) → ((o : OrRefused Packet) → CarriesNoField o → P o) → (s : List ℕ)
     → P (readPayload (carried identifiers (word s 3)) 5 (payload s)) → P (readFrame s)
 unfolding readFrame
 frame-by P plain s held =
@@ -58,7 +58,7 @@ frame-by P plain s held =
 -- The field that is named
 
 module _ (contents : Carries) (p : ℕ) (t : List ℕ) where
-  plain-names : (o : OrRefused Packet) → CarriesNothing o → PayloadNames contents p t o
+  plain-names : (o : OrRefused Packet) → CarriesNoField o → PayloadNames contents p t o
   plain-names (good k) h = tt
   plain-names (refused n) h = λ c. absurd (h c)
 

@@ -12,7 +12,7 @@ use Rattle.edm.specs.Frame.{payload}
 -- the payload t, at the place p, of an identifier that carries this
 abbrev pub PayloadNames : Carries → ℕ → List ℕ → OrRefused Packet → Type 0
 PayloadNames contents p t (good k) = Unit {0}
-PayloadNames contents p t (refused n) = at.Carries n → (contents ≡ atEvent) × at.NamesInLine w26 p t n
+PayloadNames contents p t (refused n) = at.CarriesField n → (contents ≡ atEvent) × at.NamesInLine w26 p t n
 
 abbrev pub FrameNames : List ℕ → OrRefused Packet → Type 0
 FrameNames s o = PayloadNames (carried identifiers (word s 3)) 5 (payload s) o

@@ -1,5 +1,6 @@
--- Laws of what a line asks: a number digit by digit, and a text cut at its first space.
+-- Laws of what a line asks: the word that a name is, a number digit by digit, and a text cut at its first space.
 use Prim.Native.Nat.{ℕ, suc, _+_, _*_, _-_, _≤_, _<_, min}
+use Prim.Native.String.{String}
 use mathlib.Core.Path.{_≡_, refl, ap}
 use mathlib.Core.List.{List, [], _∷_}
 use mathlib.Core.Bool.{Bool, true, false, cond}
@@ -9,13 +10,24 @@ use lib.Dec.{ltb}
 use lib.ListN.{length, take, drop, getD, drop-of-length-le, length-drop}
 use lib.Seq.{drop-cons, drop-drop}
 use borrow.Author.Tests.{le-leb, lt-leb, lt-ltb, le-ltb, ltb-false}
-use Rattle.text.specs.Bytes.{bytes, part}
+use Rattle.text.specs.Bytes.{bytes, same, part}
 use Rattle.text.specs.Find.{firstOf, firstFrom}
 use Rattle.text.specs.Number.{none, isDigit, digitsFrom}
 use Rattle.text.specs.declared.number.NumberError.the-variants.{Byte}
 use Rattle.text.specs.declared.find.Found.the-variants.{At, Nothing}
 use Rattle.text.proofs.FindLaws.{from-at}
-use Rattle.replay.specs.Question.{amount, noAmount, capped, numberIn, cut, whole, atSpace}
+use Rattle.replay.specs.declared.question.Kind.{Kind}
+use Rattle.replay.specs.Question.{Word, _asks_, kindOf, amount, noAmount, capped, numberIn, cut, whole, atSpace}
+
+-- a test that came out: the word that the name is decides, and past one that it is not, the words after it do
+module _ (word : String) (k : Kind) (rest : List Word) (name : List ℕ) {t : Bool} (test : t ≡ same name (bytes word)) where
+  pub this-word : t ≡ true → kindOf ((word asks k) ∷ rest) name ≡ k
+  unfolding kindOf
+  this-word e = rw (← test, e)
+
+  pub other-word : t ≡ false → kindOf ((word asks k) ∷ rest) name ≡ kindOf rest name
+  unfolding kindOf
+  other-word e = rw (← test, e)
 
 -- numbers that are capped alike stay so with a digit more
 module _ (s : List ℕ) where
