@@ -14,6 +14,8 @@ pub mod BinaryLaws
 pub mod WalkLaws
 pub mod ResponseLaws
 pub mod InsideLaws
+pub mod HeldLaws
+pub mod TypedLaws
 pub mod Answers
 pub mod Refusals
 pub mod ResponseAnswers

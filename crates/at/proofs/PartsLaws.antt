@@ -2,16 +2,14 @@
 use Prim.Native.Nat.{ℕ, zero, suc, _+_}
 use mathlib.Core.Path.{_≡_, refl, sym, ap, _∙_}
 use mathlib.Core.List.{List, [], _∷_}
-use mathlib.Core.Bool.{Bool, true, cond, _&&_}
+use mathlib.Core.Bool.{Bool, true, _&&_}
 use native.Mathlib.Omega.{arith}
 use borrow.Author.Tests.{eqb-true, eqb-false}
 use lib.Dec.{eqb}
-use Rattle.text.specs.Bytes.{same}
 use Rattle.text.proofs.Bools.{and-left, and-right}
 use Rattle.at.specs.Refusal.{good}
 use Rattle.at.specs.Event.{Row, Event, event}
-use Rattle.at.specs.Table.{spelledRow}
-use Rattle.at.specs.Parts.{valueOf, valuesOf, rowNo, withRow, partOf, Apart}
+use Rattle.at.specs.Parts.{valueOf, valuesOf, rowNo, numberIn, withRow, partOf, Apart}
 use Rattle.at.specs.declared.parts.Value.{Value}
 use Rattle.at.specs.declared.parts.Value.the-variants as value
 use Rattle.at.specs.declared.parts.Parts.{Parts}
@@ -22,28 +20,28 @@ pub part-of-value : (v : Value) → partOf (valueOf v) ≡ v
 part-of-value (value.Number n) = refl
 part-of-value (value.Place t) = refl
 
--- the number of the first row that has these bytes; and that each row of a table is the first with its bytes, counted from a number on
-unfoldable pub numberOf : List Row → List ℕ → ℕ
-numberOf [] b = 0
-numberOf (r ∷ rs) b = cond (same b (spelledRow r)) 0 (suc (numberOf rs b))
-
+-- each row of a table is the first that has its name and its kinds, counted from a number on
 unfoldable pub firsts : List Row → ℕ → List Row → Bool
 firsts rows i [] = true
-firsts rows i (r ∷ rs) = eqb (numberOf rows (spelledRow r)) i && firsts rows (suc i) rs
+firsts rows i (r ∷ rs) = eqb (numberIn rows r) i && firsts rows (suc i) rs
 
-numbered : (rows : List Row) (k : ℕ) (rs : List Row) (i : ℕ) (r : Row) → firsts rows k rs ≡ true → rowNo rs i ≡ good r → numberOf rows (spelledRow r) ≡ k + i
+numbered : (rows : List Row) (k : ℕ) (rs : List Row) (i : ℕ) (r : Row) → firsts rows k rs ≡ true → rowNo rs i ≡ good r → numberIn rows r ≡ k + i
 unfolding rowNo firsts
 numbered rows k [] i r t e = let z : _≡_ {A = ℕ} 0 1 = cc in absurd (eqb-false 0 1 refl z)
 numbered rows k (q ∷ rs) zero r t e =
     let f : q ≡ r = cc in
-    let n = eqb-true (numberOf rows (spelledRow q)) k (and-left (eqb (numberOf rows (spelledRow q)) k) (firsts rows (suc k) rs) t) in
+    let n = eqb-true (numberIn rows q) k (and-left (eqb (numberIn rows q) k) (firsts rows (suc k) rs) t) in
     let z : k ≡ k + 0 = omega arith in
     rw f at (n ∙ z)
 numbered rows k (q ∷ rs) (suc i) r t e =
-    numbered rows (suc k) rs i r (and-right (eqb (numberOf rows (spelledRow q)) k) (firsts rows (suc k) rs) t) e ∙ omega arith
+    numbered rows (suc k) rs i r (and-right (eqb (numberIn rows q) k) (firsts rows (suc k) rs) t) e ∙ omega arith
+
+-- the number of a row of the table is its place
+pub row-number : (rows : List Row) → firsts rows 0 rows ≡ true → (i : ℕ) (r : Row) → rowNo rows i ≡ good r → numberIn rows r ≡ i
+row-number rows t i r e = numbered rows 0 rows i r t e ∙ omega arith
 
 -- the row and the values of parts are those of their event
-taken : (rows : List Row) (e : Event) (p : Parts) → Apart rows e p → (r : Row) × (rowNo rows (p .row) ≡ good r) × (good (event r (valuesOf p)) ≡ good e)
+pub taken : (rows : List Row) (e : Event) (p : Parts) → Apart rows e p → (r : Row) × (rowNo rows (p .row) ≡ good r) × (good (event r (valuesOf p)) ≡ good e)
 taken rows e p a =
     let q = row-listed rows (p .row) (a .listed) in
     (q .0, q .1, ap (λ h. withRow h (valuesOf p)) (sym (q .1)) ∙ a .whole)
@@ -55,8 +53,8 @@ one-parts rows t e p q a b =
     let f : good (event (x .0) (valuesOf p)) ≡ good (event (y .0) (valuesOf q)) = x .2 ∙ sym (y .2) in
     let r : x .0 ≡ y .0 = cc in
     let v : valuesOf p ≡ valuesOf q = cc in
-    let i = numbered rows 0 rows (p .row) (x .0) t (x .1) in
-    let j = numbered rows 0 rows (q .row) (y .0) t (y .1) in
-    let n : numberOf rows (spelledRow (x .0)) ≡ numberOf rows (spelledRow (y .0)) = rw r in
+    let i = row-number rows t (p .row) (x .0) (x .1) in
+    let j = row-number rows t (q .row) (y .0) (y .1) in
+    let n : numberIn rows (x .0) ≡ numberIn rows (y .0) = rw r in
     let m : p .row ≡ q .row = omega (arith, i, j, n) in
     a .tidy ∙ rw (m, v) (sym (b .tidy))

@@ -179,7 +179,7 @@ module _ (s : List ℕ) (k : ℕ) (h : k + 7 ≤ length s) where
 pub cons-inj : {A : Type 0} {x y : A} {xs ys : List A} → x ∷ xs ≡ y ∷ ys → (x ≡ y) × (xs ≡ ys)
 cons-inj e = (cc, cc)
 
-legible-row : (rows : List Row) (i : ℕ) (r : Row) → Legible rows → rowNo rows i ≡ good r → kindsIn (lettersOf r) ≡ rowKinds r
+pub legible-row : (rows : List Row) (i : ℕ) (r : Row) → Legible rows → rowNo rows i ≡ good r → kindsIn (lettersOf r) ≡ rowKinds r
 unfolding rowNo
 legible-row [] i r l e = let z : _≡_ {A = ℕ} 0 1 = cc in absurd (eqb-false 0 1 refl z)
 legible-row (q ∷ rs) zero r l e = let f : q ≡ r = cc in rw f at (cons-inj l .0)

@@ -10,7 +10,8 @@ use Rattle.at.specs.W26 as w26
 use Rattle.at.specs.W36 as w36
 use Rattle.at.specs.Line.{rowsNamed}
 use Rattle.at.proofs.RowsLaws.{distinct}
-use Rattle.at.proofs.PartsLaws.{numberOf, firsts}
+use Rattle.at.specs.Parts.{numberIn}
+use Rattle.at.proofs.PartsLaws.{firsts}
 
 pub roomy-w26 : (roomy w26.table ≡ true)
     × (roomy (take 7 w26.table) ≡ true)
@@ -49,9 +50,9 @@ unfolding distinct rowsNamed same w36.table
 distinct-w36 = refl
 
 pub firsts-w26 : firsts w26.table 0 w26.table ≡ true
-unfolding firsts numberOf same w26.table
+unfolding firsts numberIn same w26.table
 firsts-w26 = refl
 
 pub firsts-w36 : firsts w36.rows36 0 w36.rows36 ≡ true
-unfolding firsts numberOf same w36.table w36.binaryTable w36.rows36
+unfolding firsts numberIn same w36.table w36.binaryTable w36.rows36
 firsts-w36 = refl

@@ -24,6 +24,7 @@ use Rattle.at.specs.Walk.{orText, readEither, stepFrom, stepAt}
 use Rattle.at.specs.Response.{readRest, readResponse}
 use Rattle.at.specs.Table.{letterOf}
 use Rattle.at.specs.TableSteps.{roomy}
+use Rattle.at.specs.Typed.{Listed}
 use Rattle.at.specs.Why.{InList, NotInList, OfForm, WrongForm, Reached, Names, CarriesField, NamesInLine, NamesInBinary, LineNames, TriedNames, StepNames, UpToSeven, FieldUpToSeven, TriedUpToSeven}
 use Rattle.at.specs.declared.FieldError.the-variants.{NoNumber, NotListed}
 use Rattle.at.proofs.RowsLaws.{Each, each-named}
@@ -155,18 +156,15 @@ module _ (P : Row → Type 0) (fs : List Field) where
   by-name-says [] h = λ c. absurd c
   by-name-says (r ∷ rs) h = by-type-says (r ∷ rs) h
 
--- each row of a table has a number in it
-abbrev Numbered : List Row → Row → Type 0
-Numbered rows r = (i : ℕ) × (rowNo rows i ≡ good r)
-
 each-weaken : (P Q : Row → Type 0) → ((r : Row) → P r → Q r) → (rows : List Row) → Each P rows → Each Q rows
 each-weaken P Q f [] h = tt
 each-weaken P Q f (r ∷ rs) h = (f r (h .0), each-weaken P Q f rs (h .1))
 
-each-numbered : (rows : List Row) → Each (Numbered rows) rows
+-- each row of a table has a number in it
+pub each-numbered : (rows : List Row) → Each (Listed rows) rows
 unfolding rowNo
 each-numbered [] = tt
-each-numbered (r ∷ rs) = ((0, refl), each-weaken (Numbered rs) (Numbered (r ∷ rs)) (λ q h. (suc (h .0), h .1)) rs (each-numbered rs))
+each-numbered (r ∷ rs) = ((0, refl), each-weaken (Listed rs) (Listed (r ∷ rs)) (λ q h. (suc (h .0), h .1)) rs (each-numbered rs))
 
 -- an answer that carries no field
 abbrev pub CarriesNoField : {A : Type 0} → OrRefused A → Type 0
@@ -183,7 +181,7 @@ module _ (radio : Radio) (p : ℕ) (line : List ℕ) where
   name t = before (bytes ":") (radio .kept t)
 
   event-says : (q : ℕ) (t : List ℕ) → framed p line ≡ good (body q t) → (o : OrRefused Event)
-      → RowsSay (λ r. Numbered (radio .rows) r × (name t ≡ nameOf r)) (fieldsAfter q (radio .kept t)) o → LineNames radio p line (upTo (p + radio .spans line) o)
+      → RowsSay (λ r. Listed (radio .rows) r × (name t ≡ nameOf r)) (fieldsAfter q (radio .kept t)) o → LineNames radio p line (upTo (p + radio .spans line) o)
   event-says q t f (good e) s = tt
   event-says q t f (refused n) s = λ c.
       let r = s c in
@@ -203,8 +201,8 @@ module _ (radio : Radio) (p : ℕ) (line : List ℕ) where
   framed-says (good (body q t)) f h =
       let fs = fieldsAfter q (radio .kept t) in
       event-says q t f (byName (rowsNamed (radio .rows) (name t)) fs)
-      (by-name-says (λ r. Numbered (radio .rows) r × (name t ≡ nameOf r)) fs (rowsNamed (radio .rows) (name t))
-      (each-named (Numbered (radio .rows)) (radio .rows) (name t) (each-numbered (radio .rows))))
+      (by-name-says (λ r. Listed (radio .rows) r × (name t ≡ nameOf r)) fs (rowsNamed (radio .rows) (name t))
+      (each-named (Listed (radio .rows)) (radio .rows) (name t) (each-numbered (radio .rows))))
   framed-says (refused n) f h = λ c. absurd (h c)
 
   -- THE SAME OF A LINE
@@ -223,7 +221,7 @@ unfolding readData
 data-plain p t = either CarriesNoField (leb 2 (length t)) (either CarriesNoField (leb (announced t) (length t - 2)) tt (λ c. c)) (λ c. c)
 
 -- by one row, whose prefix the bytes start with
-module _ (rows : List Row) (p : ℕ) (s : List ℕ) (r : Row) (numbered : Numbered rows r) (starts : startsWith s (prefix r) ≡ true) where
+module _ (rows : List Row) (p : ℕ) (s : List ℕ) (r : Row) (numbered : Listed rows r) (starts : startsWith s (prefix r) ≡ true) where
   abbrev after : List ℕ
   after = drop (length (prefix r)) s
 
@@ -242,7 +240,7 @@ module _ (rows : List Row) (p : ℕ) (s : List ℕ) (r : Row) (numbered : Number
       with-data-says k e (takeKinds 1 (kindsOf r) fs) (readData (q + k + 1) (drop (k + 1) after)) (fields-say 1 (kindsOf r) fs) (data-plain (q + k + 1) (drop (k + 1) after))
   marked-says (refused n) e h = λ c. absurd (h c)
 
-rows-say : (rows : List Row) (p : ℕ) (s : List ℕ) (rs : List Row) → Each (Numbered rows) rs → TriedNames rows p s (tryRows rs p s)
+rows-say : (rows : List Row) (p : ℕ) (s : List ℕ) (rs : List Row) → Each (Listed rows) rs → TriedNames rows p s (tryRows rs p s)
 unfolding tryRows readBody
 rows-say rows p s [] h = tt
 rows-say rows p s (r ∷ rs) h =

@@ -2,9 +2,12 @@
 use Prim.Native.Nat.{ℕ, zero, suc, _<_}
 use mathlib.Core.Path.{_≡_}
 use mathlib.Core.List.{List, [], _∷_}
+use mathlib.Core.Bool.{cond}
 use lib.ListN.{length, take, getD}
+use Rattle.text.specs.Bytes.{same}
 use Rattle.at.specs.Refusal.{OrRefused, good, refused, no}
 use Rattle.at.specs.Event.{Row, Value, num, place, at, Event, event}
+use Rattle.at.specs.Table.{spelledRow}
 use Rattle.at.specs.declared.parts.Value as value
 use Rattle.at.specs.declared.parts.Parts.{Parts}
 
@@ -23,6 +26,11 @@ unfoldable pub rowNo : List Row → ℕ → OrRefused Row
 rowNo [] i = refused (no 16)
 rowNo (r ∷ rs) zero = good r
 rowNo (r ∷ rs) (suc i) = rowNo rs i
+
+-- the other way: the number of the first row that has the name and the kinds of this one
+unfoldable pub numberIn : List Row → Row → ℕ
+numberIn [] r = 0
+numberIn (q ∷ rows) r = cond (same (spelledRow r) (spelledRow q)) 0 (suc (numberIn rows r))
 
 -- the event of a row and its values
 abbrev pub withRow : OrRefused Row → List Value → OrRefused Event

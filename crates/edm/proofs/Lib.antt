@@ -2,6 +2,7 @@ pub mod Refusals
 pub mod FrameLaws
 pub mod PacketAnswers
 pub mod InsidePrograms
+pub mod TypedLaws
 pub mod WhyPrograms
 pub mod WrongReaders
 pub mod CommandLaws

@@ -4,4 +4,5 @@ pub mod Payload
 pub mod Frame
 pub mod Command
 pub mod Inside
+pub mod Typed
 pub mod Why
