@@ -16,16 +16,15 @@ use at::table::name_at;
 use text::put::put;
 ghost use mathlib.Core.Path.{_≡_};
 ghost use mathlib.Core.List.{List};
-ghost use Prim.Native.Nat.{_+_, _≤_, _<_, min};
+ghost use Prim.Native.Nat.{_+_, _≤_, min};
 ghost use lib.Dec.{leb};
 ghost use lib.ListN.{length, take, drop};
 ghost use Rattle.text.specs.Put.{after};
-ghost use Rattle.at.specs.Refusal.{good};
-ghost use Rattle.at.specs.Event.{Row, Event};
+ghost use Rattle.at.specs.Event.{Row};
 ghost use Rattle.at.specs.TableSteps.{Tabled};
 ghost use Rattle.at.specs.Parts.{valuesOf, together};
 ghost use Rattle.writer.specs.Line.{afterName, ending, contentsOf};
-ghost use Rattle.writer.specs.Write.{writableFields, writableEnd, toWrite, Writes};
+ghost use Rattle.writer.specs.Write.{writableFields, writableEnd, partsFor, Writes};
 ghost use Rattle.writer.specs.Steps.{fieldTexts, lineAs, writeAs, roomOf, roomAfter, SmallData};
 
 fn fields_writable(src: &[u8], p: Parts, n: usize, marked: bool) -> bool
@@ -170,8 +169,11 @@ fn field_count(p: Parts, kinds: usize) -> usize
 
 // The line of the event in these parts, by the table of its radio.
 pub(crate) fn write_parts(buf: &mut [u8], src: &[u8], table: &[u8], p: Parts) -> WriteAnswer
-    ensures { λ r. ⌜ ((rows : List Row) (e : Event) → Tabled rows (now (table .entry)) → p .row < length rows → together rows p ≡ good e → Writes (now (buf .entry)) (toWrite (length (now (buf .entry))) (now (src .entry)) e) r (now (buf .exit))) ⌝ }
+    ensures { λ r. ⌜ ((rows : List Row) → Tabled rows (now (table .entry)) → Writes (now (buf .entry)) (partsFor (length (now (buf .entry))) (now (src .entry)) (together rows p)) r (now (buf .exit))) ⌝ }
 {
+    if table.len() / 20 <= p.row {
+        return WriteAnswer::Refused(EventWriteError::FieldNotWritable);
+    }
     let n = field_count(p, kinds_at(table, p.row).len());
     write_line(buf, src, name_at(table, p.row), p, n)
 }
