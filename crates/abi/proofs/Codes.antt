@@ -1,5 +1,5 @@
 -- What the number of a call says, by the call's own promise: `frame.Reads.Post` is what `mirvoncle_frame` ensures. No two things have one number: 0 is
--- an accepted read and nothing else, a refused one is from 1 to 16, and 255 is "not binary" alone. A write returns a length from 6 to 4,099, or 65,536
+-- an accepted read and nothing else, a refused one is from 1 to 16, and 255 is "not binary" alone. A write of a frame returns a length from 6 to 4,099, or 65,536
 -- and a number from 1 to 16. Assumes nothing.
 use Prim.Native.Nat.{ℕ, _+_, _≤_, _<_}
 use mathlib.Core.Path.{_≡_, refl}
@@ -16,7 +16,11 @@ use borrow.Fn.Kinds.{Dens, endedOf}
 use Rattle.text.specs.Utf8.{utf8}
 use Rattle.text.proofs.Bools.{either}
 use Rattle.at.specs.Refusal.{no, numberOf, OrRefused, good, refused}
+use Rattle.at.specs.Event.{Event, event}
 use Rattle.at.specs.Written.{answerTo}
+use Rattle.writer.specs.Line.{contentsOf, lineOf}
+use Rattle.writer.specs.Write.{writable, toWrite}
+use Rattle.abi.specs.Given.{eventIn26, eventIn36, lineFor}
 use Rattle.at.specs.Line.{readLine}
 use Rattle.at.specs.Binary.{Tried, notBinary, tried, tryRows}
 use Rattle.at.specs.Response.{readResponse}
@@ -25,7 +29,7 @@ use Rattle.at.specs.W36 as of36
 use Rattle.edm.specs.Frame.{readFrame}
 use Rattle.edm.specs.Command.{frame as frameBytes, Command, command, requestOf, fitted, toSend}
 use Rattle.edm.proofs.CommandLaws.{frame-length}
-use Rattle.abi.specs.Code.{readCode, binaryCode, writeCode}
+use Rattle.abi.specs.Code.{readCode, binaryCode, frameBase, lineBase, writeCode}
 use Rattle.abi.proofs.Numbers.{Known, known, Ok, Tried-ok, line-ok, binary-ok, response-ok, frame-ok}
 use Rattle.abi.proofs.mirvoncle_frame as frame
 use Rattle.abi.proofs.mirvoncle_w26 as w26
@@ -35,6 +39,8 @@ use Rattle.abi.proofs.mirvoncle_response as response
 use Rattle.abi.proofs.mirvoncle_write_data as write-data
 use Rattle.abi.proofs.mirvoncle_write_request as write-request
 use Rattle.abi.proofs.mirvoncle_write_resend as write-resend
+use Rattle.abi.proofs.write.mirvoncle_write_w26 as write-w26
+use Rattle.abi.proofs.write.mirvoncle_write_w36 as write-w36
 
 -- Reads
 
@@ -110,10 +116,10 @@ sent-ok room k h = either Sent-ok (ltb room 6) (known 2 refl refl) (go k h)
     go (good (command id t)) h = within id t (leb (length t) 4093) (leb (length t + 6) room) refl
     go (refused n) h = h
 
-says-sent : (room : ℕ) (k : OrRefused Command) (r : ℕ) → Ok k → r ≡ writeCode (answerTo (toSend room k)) → SaysSent (toSend room k) r
+says-sent : (room : ℕ) (k : OrRefused Command) (r : ℕ) → Ok k → r ≡ writeCode frameBase (answerTo (toSend room k)) → SaysSent (toSend room k) r
 says-sent room k r h = go (toSend room k) (sent-ok room k h)
   where
-    go : (w : OrRefused (List ℕ)) → Sent-ok w → r ≡ writeCode (answerTo w) → SaysSent w r
+    go : (w : OrRefused (List ℕ)) → Sent-ok w → r ≡ writeCode frameBase (answerTo w) → SaysSent w r
     go (good f) k e = (e, omega (arith, e, k .0), omega (arith, e, k .1))
     go (refused n) k e = (e, k)
 
@@ -128,3 +134,34 @@ request-says κs a r i p = says-sent (length (a .0 .now)) (requestOf (a .1 .0 .n
 pub resend-says : (κs : Lfts 1) (a : Dens κs write-resend.Kinds.ps) (r : ℕ) (i : AtExit (endedOf 1 write-resend.Kinds.ps write-resend.Kinds.r) κs)
     → write-resend.Reads.Post κs a r i → SaysSent (toSend (length (a .0 .now)) (good (command 0x56 []))) r
 resend-says κs a r i p = says-sent (length (a .0 .now)) (good (command 0x56 [])) r tt (p .answers)
+
+-- Writes of an event's line
+
+-- a number below 2^63 says that a line was written, and is its length; every line is below it that is written to a buffer below 2^63 bytes
+abbrev pub SaysLine : ℕ → OrRefused (List ℕ) → ℕ → Type 0
+SaysLine room (good l) r = (r ≡ length l) × (r ≤ room)
+SaysLine room (refused n) r = r ≡ lineBase + numberOf n
+
+pub below-line : (room : ℕ) (w : OrRefused (List ℕ)) (r : ℕ) → SaysLine room w r → r < lineBase → (l : List ℕ) × (w ≡ good l)
+below-line room (good l) r s h = (l, refl)
+below-line room (refused n) r s h = absurd (omega (arith, s, h))
+
+line-fits : (room : ℕ) (src : List ℕ) (o : OrRefused Event) (r : ℕ) → r ≡ writeCode lineBase (answerTo (lineFor room src o)) → SaysLine room (lineFor room src o) r
+unfolding toWrite
+line-fits room src (refused n) r e = e
+line-fits room src (good (event row vs)) r e = go (writable src row vs) (leb (length (lineOf row (contentsOf src vs))) room) refl e
+  where
+    go : (k l : Bool) → leb (length (lineOf row (contentsOf src vs))) room ≡ l
+        → r ≡ writeCode lineBase (answerTo (cond k (cond l (good (lineOf row (contentsOf src vs))) (refused (no 18))) (refused (no 17))))
+        → SaysLine room (cond k (cond l (good (lineOf row (contentsOf src vs))) (refused (no 18))) (refused (no 17))) r
+    go true true t q = (q, omega (arith, q, leb-true (length (lineOf row (contentsOf src vs))) room t))
+    go true false t q = q
+    go false l t q = q
+
+pub w26-line-says : (κs : Lfts 3) (a : Dens κs write-w26.Kinds.ps) (r : ℕ) (i : AtExit (endedOf 3 write-w26.Kinds.ps write-w26.Kinds.r) κs) → write-w26.Reads.Post κs a r i
+    → SaysLine (length (a .0 .now)) (lineFor (length (a .0 .now)) (a .1 .0 .now) (eventIn26 (a .1 .1 .0 .now))) r
+w26-line-says κs a r i p = line-fits (length (a .0 .now)) (a .1 .0 .now) (eventIn26 (a .1 .1 .0 .now)) r (p .answers)
+
+pub w36-line-says : (κs : Lfts 3) (a : Dens κs write-w36.Kinds.ps) (r : ℕ) (i : AtExit (endedOf 3 write-w36.Kinds.ps write-w36.Kinds.r) κs) → write-w36.Reads.Post κs a r i
+    → SaysLine (length (a .0 .now)) (lineFor (length (a .0 .now)) (a .1 .0 .now) (eventIn36 (a .1 .1 .0 .now))) r
+w36-line-says κs a r i p = line-fits (length (a .0 .now)) (a .1 .0 .now) (eventIn36 (a .1 .1 .0 .now)) r (p .answers)

@@ -1,6 +1,14 @@
 pub mod Numbers
 pub mod CodeLaws
+pub mod RowLaws
+pub mod ReadLaws
+pub mod CommandLaws
+pub mod GivenLaws
+pub mod Handed
+pub mod Injective
+pub mod RoundTrip
 pub mod OneOutcome
 pub mod Codes
-pub mod Examples
 pub mod WhyCodes
+pub mod Examples
+pub mod WrongRows

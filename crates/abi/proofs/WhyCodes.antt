@@ -1,62 +1,38 @@
 -- What the number of a why call says, by the call's own promise: its lowest byte is the number of the plain call, the byte above it the field, and what
 -- stands above both the reason. Assumes nothing.
-use Prim.Native.Nat.{ℕ, _/_, _%_}
+use Prim.Native.Nat.{ℕ}
 use mathlib.Core.Path.{_≡_, refl}
 use mathlib.Core.List.{List}
-use native.Mathlib.Omega.{arith}
 use contract.Lifetimes.{Lfts}
 use denote.Ref.{RefT}
 use denote.Triple.Clauses.{AtExit}
 use borrow.Fn.Kinds.{endedOf}
-use Rattle.at.specs.Refusal.{Refusal, no, missing, invalid, numberOf, OrRefused, good, refused}
+use Rattle.at.specs.Refusal.{no, OrRefused, good, refused}
 use Rattle.at.specs.Line.{readLine}
 use Rattle.at.specs.Binary.{Tried, notBinary, tried, tryRows}
 use Rattle.at.specs.W26 as of26
 use Rattle.at.specs.W36 as of36
-use Rattle.at.specs.Why.{UpToSeven, FieldUpToSeven, TriedUpToSeven}
+use Rattle.at.specs.Why.{FieldUpToSeven, TriedUpToSeven}
 use Rattle.at.proofs.TableTests.{roomy-w26, roomy-w36, roomy-binary}
 use Rattle.at.proofs.WhyLaws.{line-seven, binary-seven}
 use Rattle.edm.specs.Frame.{readFrame}
 use Rattle.edm.proofs.WhyPrograms.{frame-seven}
-use Rattle.abi.specs.Code.{reasonNo, whyNo, whyCode, whyBinaryCode}
-use Rattle.abi.proofs.Numbers.{Known, Ok, Tried-ok, line-ok, binary-ok, frame-ok}
+use Rattle.abi.specs.Code.{whyCode, whyBinaryCode}
+use Rattle.abi.proofs.Numbers.{Ok, Tried-ok, line-ok, binary-ok, frame-ok}
+use Rattle.abi.proofs.CodeLaws.{Unpacks, refusal-unpacks}
 use Rattle.abi.proofs.mirvoncle_frame_why as frame-why
 use Rattle.abi.proofs.mirvoncle_w26_why as w26-why
 use Rattle.abi.proofs.mirvoncle_w36_why as w36-why
 use Rattle.abi.proofs.mirvoncle_w36_binary_why as binary-why
 
--- the field and the reason that a refusal carries, as numbers, and 0 for what it does not carry
-abbrev pub carriedField : Refusal → ℕ
-carriedField (no n) = 0
-carriedField (missing i) = i
-carriedField (invalid i why) = i
-
-abbrev pub carriedReason : Refusal → ℕ
-carriedReason (no n) = 0
-carriedReason (missing i) = 0
-carriedReason (invalid i why) = reasonNo why
-
--- a number that says all three
-pub record Unpacks (number : ℕ) (n : Refusal) (r : ℕ) : Type 0 where
-  pub lowest : r % 256 ≡ number
-  pub above : r / 256 % 256 ≡ carriedField n
-  pub highest : r / 65536 ≡ carriedReason n
-
 -- no refusal at all is `no 0`
 abbrev pub SaysWhy : {A : Type 0} → OrRefused A → ℕ → Type 0
-SaysWhy (good a) r = Unpacks 0 (no 0) r
-SaysWhy (refused n) r = Unpacks (numberOf n) n r
+SaysWhy (good a) r = Unpacks (no 0) r
+SaysWhy (refused n) r = Unpacks n r
 
 abbrev pub SaysWhyTried : Tried → ℕ → Type 0
-SaysWhyTried notBinary r = Unpacks 255 (no 255) r
+SaysWhyTried notBinary r = Unpacks (no 255) r
 SaysWhyTried (tried a) r = SaysWhy a r
-
-refusal-unpacks : (n : Refusal) → Known (numberOf n) → UpToSeven n → Unpacks (numberOf n) n (whyNo n)
-refusal-unpacks (no n) k h =
-    record { lowest = omega (arith, k .most); above = omega (arith, k .most); highest = omega (arith, k .most) }
-refusal-unpacks (missing i) k h = record { lowest = omega arith; above = omega (arith, h .1); highest = omega (arith, h .1) }
-refusal-unpacks (invalid i why) k h =
-    record { lowest = omega arith; above = omega (arith, h .1); highest = omega (arith, h .1) }
 
 says-why : {A : Type 0} (o : OrRefused A) (r : ℕ) → Ok o → FieldUpToSeven o → r ≡ whyCode o → SaysWhy o r
 says-why (good a) r k h e = rw e (record { lowest = refl; above = refl; highest = refl })

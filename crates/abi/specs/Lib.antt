@@ -1,1 +1,4 @@
 pub mod Code
+pub mod Row
+pub mod Given
+pub mod Steps

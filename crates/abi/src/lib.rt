@@ -1,13 +1,21 @@
-// Calls for programs in C and Rust: the readers and the writer of the layers below, each answer as one number. bindings/ says what a caller owes.
+// Calls for programs in C and Rust. Those of this file give each answer as one number; `read` hands out what was read and `write` takes what is to be
+// written, in rows of numbers. bindings/ says what a caller owes.
+mod given;
+mod packet;
+pub mod read;
 mod refusal;
+mod row;
+pub mod write;
 
+use crate::read::binary_into;
+use crate::read::frame_into;
+use crate::read::w26_into;
+use crate::read::w36_into;
 use crate::refusal::of_at;
 use crate::refusal::of_frame;
 use crate::refusal::plain;
 use at::response::ResponseAnswer;
-use at::w36::BinaryAnswer;
 use edm::Channel;
-use edm::FrameAnswer;
 use edm::WriteAnswer;
 ghost use mathlib.Core.Path.{_≡_};
 ghost use mathlib.Core.List.{[], _∷_};
@@ -21,10 +29,18 @@ ghost use Rattle.at.specs.Binary.{tryRows};
 ghost use Rattle.at.specs.Response.{readResponse};
 ghost use Rattle.edm.specs.Frame.{readFrame};
 ghost use Rattle.edm.specs.Command.{command, requestOf, toSend, shown};
-ghost use Rattle.abi.specs.Code.{readCode, binaryCode, whyCode, whyBinaryCode, writeCode, Sends};
+ghost use Rattle.abi.specs.Code.{readCode, binaryCode, whyCode, whyBinaryCode, frameBase, writeCode, Sends};
 
-fn written(a: WriteAnswer) -> usize
-    ensures { λ r. ⌜ r ≡ writeCode (shown a) ⌝ }
+// The version of these calls. Its number is in its name, so that a program that was made for another version does not link.
+#[no_mangle]
+pub extern "C" fn mirvoncle_version_2() -> u32
+    ensures { λ r. ⌜ r ≡ 2 ⌝ }
+{
+    2
+}
+
+pub(crate) fn written(a: WriteAnswer) -> usize
+    ensures { λ r. ⌜ r ≡ writeCode frameBase (shown a) ⌝ }
 {
     match a {
         WriteAnswer::Wrote(n) => n,
@@ -32,16 +48,13 @@ fn written(a: WriteAnswer) -> usize
     }
 }
 
-// Each reader that can name a field has a call that says why it refuses. The plain call keeps the number alone, so that the reader is called at one
-// place.
+// Each reader that can name a field has a call that says why it refuses. The plain call keeps the number alone.
 #[no_mangle]
 pub extern "C" fn mirvoncle_frame_why(s: &[u8]) -> u32
     ensures { λ r. ⌜ r ≡ whyCode (readFrame (now (s .entry))) ⌝ }
 {
-    match edm::frame::read(s) {
-        FrameAnswer::Packet(_) => 0,
-        FrameAnswer::Refused(e) => of_frame(e),
-    }
+    let mut none = [0u64; 1];
+    frame_into(s, &mut none)
 }
 
 #[no_mangle]
@@ -55,10 +68,8 @@ pub extern "C" fn mirvoncle_frame(s: &[u8]) -> u8
 pub extern "C" fn mirvoncle_w26_why(s: &[u8]) -> u32
     ensures { λ r. ⌜ r ≡ whyCode (readLine w26 0 (now (s .entry))) ⌝ }
 {
-    match at::w26::read(s, 0) {
-        at::w26::EventAnswer::Event { event: _, past: _ } => 0,
-        at::w26::EventAnswer::Refused(e) => of_at(e),
-    }
+    let mut none = [0u64; 1];
+    w26_into(s, &mut none)
 }
 
 #[no_mangle]
@@ -72,10 +83,8 @@ pub extern "C" fn mirvoncle_w26(s: &[u8]) -> u8
 pub extern "C" fn mirvoncle_w36_why(s: &[u8]) -> u32
     ensures { λ r. ⌜ r ≡ whyCode (readLine w36 0 (now (s .entry))) ⌝ }
 {
-    match at::w36::read(s, 0) {
-        at::w36::EventAnswer::Event { event: _, past: _ } => 0,
-        at::w36::EventAnswer::Refused(e) => of_at(e),
-    }
+    let mut none = [0u64; 1];
+    w36_into(s, 0, &mut none)
 }
 
 #[no_mangle]
@@ -89,11 +98,8 @@ pub extern "C" fn mirvoncle_w36(s: &[u8]) -> u8
 pub extern "C" fn mirvoncle_w36_binary_why(s: &[u8]) -> u32
     ensures { λ r. ⌜ r ≡ whyBinaryCode (tryRows binaryTable 0 (now (s .entry))) ⌝ }
 {
-    match at::w36::try_parse_binary(s, 0) {
-        BinaryAnswer::Event { event: _, past: _ } => 0,
-        BinaryAnswer::NotBinary => 255,
-        BinaryAnswer::Refused(e) => of_at(e),
-    }
+    let mut none = [0u64; 1];
+    binary_into(s, 0, &mut none)
 }
 
 #[no_mangle]
@@ -123,21 +129,21 @@ pub extern "C" fn mirvoncle_utf8_prefix(s: &[u8]) -> usize
 
 #[no_mangle]
 pub extern "C" fn mirvoncle_write_data(buf: &mut [u8], channel: u8, data: &[u8]) -> usize
-    ensures { λ r. ⌜ Sends (now (buf .entry)) (toSend (length (now (buf .entry))) (good (command 0x36 (channel ∷ now («data» .entry))))) r (now (buf .exit)) ⌝ }
+    ensures { λ r. ⌜ Sends frameBase (now (buf .entry)) (toSend (length (now (buf .entry))) (good (command 0x36 (channel ∷ now («data» .entry))))) r (now (buf .exit)) ⌝ }
 {
     written(edm::command::write_data(buf, Channel(channel), data))
 }
 
 #[no_mangle]
 pub extern "C" fn mirvoncle_write_request(buf: &mut [u8], text: &[u8]) -> usize
-    ensures { λ r. ⌜ Sends (now (buf .entry)) (toSend (length (now (buf .entry))) (requestOf (now (text .entry)))) r (now (buf .exit)) ⌝ }
+    ensures { λ r. ⌜ Sends frameBase (now (buf .entry)) (toSend (length (now (buf .entry))) (requestOf (now (text .entry)))) r (now (buf .exit)) ⌝ }
 {
     written(edm::command::write_request(buf, text))
 }
 
 #[no_mangle]
 pub extern "C" fn mirvoncle_write_resend(buf: &mut [u8]) -> usize
-    ensures { λ r. ⌜ Sends (now (buf .entry)) (toSend (length (now (buf .entry))) (good (command 0x56 []))) r (now (buf .exit)) ⌝ }
+    ensures { λ r. ⌜ Sends frameBase (now (buf .entry)) (toSend (length (now (buf .entry))) (good (command 0x56 []))) r (now (buf .exit)) ⌝ }
 {
     written(edm::command::write_resend(buf))
 }

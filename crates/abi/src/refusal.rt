@@ -7,10 +7,10 @@ ghost use mathlib.Core.Path.{_≡_};
 ghost use Prim.Native.Nat.{_%_, _≤_};
 ghost use Rattle.at.specs.Refusal as events;
 ghost use Rattle.edm.specs.Refusal as frames;
-ghost use Rattle.abi.specs.Code.{reasonNo, whyNo};
+ghost use Rattle.abi.specs.Code.{reasonOf, whyNo};
 
 fn reason(why: FieldError) -> u32
-    ensures { λ r. ⌜ (r ≡ reasonNo why) × (r ≤ 4) ⌝ }
+    ensures { λ r. ⌜ (r ≡ reasonOf why) × (r ≤ 4) ⌝ }
 {
     match why {
         FieldError::NoNumber(e) => match e {

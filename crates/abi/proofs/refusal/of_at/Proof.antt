@@ -1,4 +1,5 @@
 -- `refusal::of_at` meets its contract. Assumes nothing.
+use native.Mathlib.Omega.{arith}
 use borrow.Author.Needs.{needs}
 use Rattle.abi.proofs.refusal.of_at.Statement.{statement}
 use Rattle.abi.proofs.refusal.of_at.Tie as tie
@@ -13,7 +14,7 @@ returns-3 : tie.Need-returns-3
 returns-3 c = rw (c .enum-told3 .given .1)
 
 returns-4 : tie.Need-returns-4
-returns-4 c = rw (c .before .e .given .1)
+returns-4 c = rw (c .before .e .given .1) (omega arith)
 
 returns-5 : tie.Need-returns-5
 returns-5 c = rw (c .before .before .e2 .given .1, c .reason .ensures .0)
