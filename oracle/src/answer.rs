@@ -9,14 +9,14 @@ use crate::{differences, rust, show, walk, why, writer};
 /// A panic that document 01 has no answer for.
 pub const PANIC: &str = "PANIC";
 /// The two copies of the response reader do not agree.
-const COPIES_DIFFER: &str = "COPIES DIFFER";
+pub const COPIES_DIFFER: &str = "COPIES DIFFER";
 /// The Rust does not read the line of our event writer as the event that was written.
 const NOT_READ_BACK: &str = "NOT READ BACK";
 /// A write changed a byte that it must leave: after its frame, or any on a refusal.
-const BYTE_CHANGED: &str = "BYTE CHANGED";
+pub const BYTE_CHANGED: &str = "BYTE CHANGED";
 
 /// What a buffer holds before a write.
-const FILL: u8 = 0xC7;
+pub const FILL: u8 = 0xC7;
 
 /// Nothing, or the fault that stands in the answer's place.
 pub type Answered = Result<(), &'static str>;

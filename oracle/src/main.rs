@@ -4,6 +4,8 @@
 
 mod amiss;
 mod answer;
+#[cfg(feature = "archive")]
+mod archive;
 mod bluetooth;
 mod cases;
 mod classes;
@@ -39,7 +41,8 @@ use std::process::ExitCode;
 use answer::{Answerer, Outcome};
 
 const USAGE: &str = "usage: oracle answer | compare INPUTS OURS | classes [INPUTS] | \
-                     generate N SEED | short | record | selftest";
+                     generate N SEED | short | record | selftest, \
+                     and with the feature archive: archive N SEED";
 
 fn main() -> ExitCode {
     rust::keep_panics_quiet();
@@ -70,6 +73,8 @@ fn run(words: &[&str]) -> Result<bool, String> {
             output.end()
         }
         ["selftest"] => selftest::run(),
+        #[cfg(feature = "archive")]
+        ["archive", count, seed] => archive::compare(number(count)?, number(seed)?),
         _ => Err(USAGE.to_string()),
     }
 }

@@ -50,6 +50,22 @@ pub enum Call {
     Again36 { size: usize },
 }
 
+impl Call {
+    pub fn word(self) -> &'static str {
+        match self {
+            Call::Read(reader) => reader.word(),
+            Call::Why(reader) => reader.why_word(),
+            Call::Walk36 => "walk36",
+            Call::Response => "response",
+            Call::Data { .. } => "data",
+            Call::Request { .. } => "request",
+            Call::Resend { .. } => "resend",
+            Call::Again26 { .. } => "again26",
+            Call::Again36 { .. } => "again36",
+        }
+    }
+}
+
 /// No write needs more than this; a line that asks for more is a slip.
 const LARGEST_SIZE: usize = 1 << 20;
 
@@ -99,16 +115,14 @@ fn number(word: &[u8]) -> Option<usize> {
 
 /// Writes the line of a question.
 pub fn push(out: &mut Vec<u8>, call: Call, bytes: &[u8]) {
+    out.extend_from_slice(call.word().as_bytes());
     match call {
-        Call::Read(reader) => push_words(out, reader.word(), &[]),
-        Call::Why(reader) => push_words(out, reader.why_word(), &[]),
-        Call::Walk36 => push_words(out, "walk36", &[]),
-        Call::Response => push_words(out, "response", &[]),
-        Call::Data { size, channel } => push_words(out, "data", &[size, channel as usize]),
-        Call::Request { size } => push_words(out, "request", &[size]),
-        Call::Resend { size } => push_words(out, "resend", &[size]),
-        Call::Again26 { size } => push_words(out, "again26", &[size]),
-        Call::Again36 { size } => push_words(out, "again36", &[size]),
+        Call::Read(_) | Call::Why(_) | Call::Walk36 | Call::Response => {}
+        Call::Data { size, channel } => push_numbers(out, &[size, channel as usize]),
+        Call::Request { size }
+        | Call::Resend { size }
+        | Call::Again26 { size }
+        | Call::Again36 { size } => push_numbers(out, &[size]),
     }
     if !matches!(call, Call::Resend { .. }) {
         out.push(b' ');
@@ -117,9 +131,7 @@ pub fn push(out: &mut Vec<u8>, call: Call, bytes: &[u8]) {
     out.push(b'\n');
 }
 
-/// The word of a question and its numbers.
-fn push_words(out: &mut Vec<u8>, kind: &str, numbers: &[usize]) {
-    out.extend_from_slice(kind.as_bytes());
+fn push_numbers(out: &mut Vec<u8>, numbers: &[usize]) {
     for &n in numbers {
         out.push(b' ');
         push_decimal(out, n);

@@ -1,8 +1,9 @@
 //! An event as a row: the Rust's name for it, its name in a line, and its values in order. Printing,
-//! the event writer and the question whether two events are the same all go by the row.
+//! the event writer and the question whether two events are the same all go by the row. `archive`
+//! compiles this file a second time, for the types of the crate.
 
-use crate::judged::w26x::at_protocol as w26;
-use crate::judged::w36x::at_protocol as w36;
+use super::judged::w26x::at_protocol as w26;
+use super::judged::w36x::at_protocol as w36;
 use Value::{Case, Data, IsIpv6, Text};
 
 #[derive(PartialEq)]
@@ -142,6 +143,6 @@ pub fn of36<'a>(event: &w36::ATEvent<'a>) -> Row<'a> {
     Row { case, name, values }
 }
 
-fn number(n: impl Into<u32>) -> Value<'static> {
+pub fn number(n: impl Into<u32>) -> Value<'static> {
     Value::Number(n.into())
 }

@@ -1,13 +1,14 @@
 //! Answers as text: the Rust's names, then the fields in the Rust's order, split by single spaces.
+//! `archive` compiles this file a second time, for the types of the crate.
 
 use std::fmt::Debug;
 use std::io::Write;
 
+use super::judged::w26x::at_protocol::ATResponse;
+use super::judged::w26x::edm_protocol::{ConnectEventType, EdmPacket, EdmPacketError};
+use super::rows::{self, Row, Value};
 use crate::hex;
-use crate::judged::w26x::at_protocol::ATResponse;
-use crate::judged::w26x::edm_protocol::{ConnectEventType, EdmPacket, EdmPacketError};
 use crate::record::push_decimal;
-use crate::rows::{self, Row, Value};
 
 /// The Rust returned a case that no reader returns, by document 01.
 pub const UNLISTED: &str = "UNLISTED CASE";
