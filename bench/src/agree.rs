@@ -1,114 +1,146 @@
-//! Both sides must give one answer before their cost is compared.
+//! All sides must give one answer before their cost is compared. The crate is asked for the fields: it
+//! takes them from the row of the very call that is measured.
 
-use crate::calls::{Kind, CHANNEL, ROOM};
+use std::fmt::Debug;
+
+use mirvoncle::w26x::{at_protocol as our26, edm_protocol as our_edm};
+use mirvoncle::w36x::at_protocol as our36;
+
+use crate::calls::{Kind, ROOM};
 use crate::inputs::Place;
-use crate::judged::w26x::at_protocol as w26;
-use crate::judged::w26x::edm_protocol::{EdmPacket, EdmPacketError};
+use crate::judged::w26x::{at_protocol as w26, edm_protocol as edm};
 use crate::judged::w36x::at_protocol as w36;
-use crate::ours::{self, NOT_BINARY, REFUSED};
-use crate::rust;
-
-/// What a call answers as a number (0 accepted, else the refusal's; for UTF-8 and writes a length),
-/// and the buffer afterwards.
-#[derive(PartialEq)]
-struct Answer(usize, Vec<u8>);
+use crate::{gateway, ours, rust};
 
 /// What a buffer holds beforehand, so that a byte that is written where none may be shows.
 const BEFORE: u8 = 0xE7;
 
 pub fn agree(kind: Kind, rust_input: &[u8], our_input: &[u8]) -> Result<(), String> {
+    match kind {
+        Kind::Frame => {
+            same(edm::EdmPacket::new(rust_input).map(packet), our_edm::EdmPacket::new(our_input))
+        }
+        Kind::W26 => {
+            same(w26::ATEvent::new(rust_input).map(event26), our26::ATEvent::new(our_input))
+        }
+        Kind::W36 => {
+            same(w36::ATEvent::new(rust_input).map(event36), our36::ATEvent::new(our_input))
+        }
+        Kind::Binary => same(
+            w36::ATEvent::try_parse_binary(rust_input).map(binary),
+            our36::ATEvent::try_parse_binary(our_input),
+        ),
+        Kind::Response => {
+            same(w26::ATResponse::new(rust_input).map(response), our26::ATResponse::new(our_input))
+        }
+        Kind::Utf8 | Kind::WriteData | Kind::WriteRequest => {
+            let rust = written(|to| rust::number(kind, rust_input, to));
+            let ours = written(|to| ours::number(kind, our_input, to));
+            let through = written(|to| gateway::number(kind, our_input, to));
+            match rust == ours && rust == through {
+                true => Ok(()),
+                false => Err("the numbers or the written bytes differ".to_string()),
+            }
+        }
+    }
+}
+
+/// The Rust's answer in the types of the crate, and the crate's. Refusals have the same names in both.
+fn same<T: PartialEq + Debug>(
+    rust: Result<Option<T>, impl Debug>,
+    ours: Result<T, impl Debug>,
+) -> Result<(), String> {
+    match (rust, ours) {
+        (Ok(None), _) => Err("agree.rs lacks the case that the Rust answers".to_string()),
+        (Ok(Some(rust)), Ok(ours)) if rust == ours => Ok(()),
+        (Err(rust), Err(ours)) if format!("{rust:?}") == format!("{ours:?}") => Ok(()),
+        (rust, ours) => Err(format!("the Rust answers {rust:?}, the crate {ours:?}")),
+    }
+}
+
+/// What a call answers, and the buffer afterwards.
+fn written(call: impl FnOnce(&mut [u8]) -> Option<usize>) -> (Option<usize>, Vec<u8>) {
     let mut buffer = Place::of_frame(&[BEFORE; ROOM]);
-    let number = by_rust(kind, rust_input, buffer.bytes_mut())?;
-    let rust = Answer(number, buffer.bytes().to_vec());
-    buffer.bytes_mut().fill(BEFORE);
-    let number = by_ours(kind, our_input, buffer.bytes_mut());
-    let ours = Answer(number, buffer.bytes().to_vec());
-    match rust == ours {
-        true => Ok(()),
-        false if rust.0 == ours.0 => Err("the written bytes differ".to_string()),
-        false => Err(format!("the Rust answers {}, the archive {}", rust.0, ours.0)),
+    let number = call(buffer.bytes_mut());
+    (number, buffer.bytes().to_vec())
+}
+
+/// An event of the Rust as the crate has it, for the cases that the bench's inputs give.
+macro_rules! moved {
+    ($event:expr, $from:ident, $to:ident, $($case:ident { $($field:ident),* })*) => {
+        match $event {
+            $($from::ATEvent::$case { $($field),* } => Some($to::ATEvent::$case { $($field),* }),)*
+            _ => None,
+        }
+    };
+}
+
+fn packet(packet: edm::EdmPacket<'_>) -> Option<our_edm::EdmPacket<'_>> {
+    use our_edm::EdmPacket;
+    match packet {
+        edm::EdmPacket::DataEvent { channel, data } => Some(EdmPacket::DataEvent { channel, data }),
+        edm::EdmPacket::ATRequest(text) => Some(EdmPacket::ATRequest(text)),
+        edm::EdmPacket::ATResponse(said) => response(said).map(EdmPacket::ATResponse),
+        edm::EdmPacket::ATEvent(event) => event26(event).map(EdmPacket::ATEvent),
+        _ => None,
     }
 }
 
-fn by_rust(kind: Kind, input: &[u8], buffer: &mut [u8]) -> Result<usize, String> {
-    Ok(match kind {
-        Kind::Frame => EdmPacket::new(input).map_or_else(edm_number, |_| 0),
-        Kind::W26 => w26::ATEvent::new(input).map_or_else(at_number, |_| 0),
-        Kind::W36 => w36::ATEvent::new(input).map_or_else(at36_number, |_| 0),
-        Kind::Binary => match w36::ATEvent::try_parse_binary(input) {
-            Ok(Some(_)) => 0,
-            Ok(None) => NOT_BINARY.into(),
-            Err(error) => at36_number(error),
-        },
-        Kind::Response => w26::ATResponse::new(input).map_or_else(at_number, |_| 0),
-        Kind::Utf8 => rust::valid_up_to(input),
-        Kind::WriteData => {
-            let packet = EdmPacket::DataCommand { channel: CHANNEL, data: input };
-            packet.write(buffer).unwrap_or_else(|error| REFUSED + edm_number(error))
-        }
-        Kind::WriteRequest => {
-            let text = core::str::from_utf8(input).map_err(|_| "a request must be UTF-8")?;
-            let packet = EdmPacket::ATRequest(text);
-            packet.write(buffer).unwrap_or_else(|error| REFUSED + edm_number(error))
-        }
+fn event26(event: w26::ATEvent<'_>) -> Option<our26::ATEvent<'_>> {
+    if let w26::ATEvent::PeerConnectedIP {
+        peer_handle,
+        is_ipv6,
+        protocol,
+        local_address,
+        local_port,
+        remote_address,
+        remote_port,
+    } = event
+    {
+        return Some(our26::ATEvent::PeerConnectedIP {
+            peer_handle,
+            is_ipv6,
+            protocol: match protocol {
+                w26::PeerConnectedProfile::TCP => our26::PeerConnectedProfile::TCP,
+                w26::PeerConnectedProfile::UDP => our26::PeerConnectedProfile::UDP,
+                w26::PeerConnectedProfile::MQTT => our26::PeerConnectedProfile::MQTT,
+            },
+            local_address,
+            local_port,
+            remote_address,
+            remote_port,
+        });
+    }
+    moved!(event, w26, our26,
+        WifiAccessPointStationConnected { id, mac_addr }
+        NetworkUp { interface_id }
+        NetworkError { interface_id, code }
+    )
+}
+
+fn event36(event: w36::ATEvent<'_>) -> Option<our36::ATEvent<'_>> {
+    moved!(event, w36, our36,
+        SocketConnected { socket_id }
+        WifiLinkUp { wlan_handle, bssid, channel }
+        WifiAccessPointStationAssociated { mac_addr }
+        AccessPointNetworkDown {}
+        SocketDataBinary { socket_id, data }
+        SocketDataBinaryFrom { socket_id, remote_ip, remote_port, data }
+    )
+}
+
+/// `Some(None)` is what no binary event begins.
+fn binary(event: Option<w36::ATEvent<'_>>) -> Option<Option<our36::ATEvent<'_>>> {
+    match event {
+        Some(event) => event36(event).map(Some),
+        None => Some(None),
+    }
+}
+
+fn response(response: w26::ATResponse<'_>) -> Option<our26::ATResponse<'_>> {
+    Some(match response {
+        w26::ATResponse::Ok(text) => our26::ATResponse::Ok(text),
+        w26::ATResponse::Error => our26::ATResponse::Error,
+        w26::ATResponse::Other(text) => our26::ATResponse::Other(text),
     })
-}
-
-fn by_ours(kind: Kind, input: &[u8], buffer: &mut [u8]) -> usize {
-    let (at, len) = (input.as_ptr(), input.len());
-    let (to, room) = (buffer.as_mut_ptr(), buffer.len());
-    // SAFETY: pointers and lengths are those of the two slices.
-    unsafe {
-        match kind {
-            Kind::Frame => ours::mirvoncle_frame(at, len).into(),
-            Kind::W26 => ours::mirvoncle_w26(at, len).into(),
-            Kind::W36 => ours::mirvoncle_w36(at, len).into(),
-            Kind::Binary => ours::mirvoncle_w36_binary(at, len).into(),
-            Kind::Response => ours::mirvoncle_response(at, len).into(),
-            Kind::Utf8 => ours::mirvoncle_utf8_prefix(at, len),
-            Kind::WriteData => ours::mirvoncle_write_data(to, room, CHANNEL, at, len),
-            Kind::WriteRequest => ours::mirvoncle_write_request(to, room, at, len),
-        }
-    }
-}
-
-/// The numbers of document 01, "Numbered refusals". `PacketTypeDecodingFailed` has none, since no path
-/// returns it: what stands for it here agrees with no answer.
-fn edm_number(error: EdmPacketError) -> usize {
-    match error {
-        EdmPacketError::PacketTypeDecodingFailed => usize::MAX - REFUSED,
-        EdmPacketError::PacketDecodeFramingInvalid => 1,
-        EdmPacketError::PacketDecodeTargetMemorySizeInvalid => 2,
-        EdmPacketError::PacketTypeDecodeLengthMismatch => 3,
-        EdmPacketError::PayloadTypeUnknown => 4,
-        EdmPacketError::ConnectEventUnsupported => 5,
-        EdmPacketError::ConnectEventDecodeError => 6,
-        EdmPacketError::DisconnectEventDecodeError => 7,
-        EdmPacketError::AtRequestEventDecodeError => 8,
-        EdmPacketError::PacketEncodeTypeUnknown => 9,
-        EdmPacketError::PacketEncodePayloadSizeInvalid => 10,
-        EdmPacketError::AtPacketError(error) => at_number(error),
-    }
-}
-
-fn at_number(error: w26::AtPacketError) -> usize {
-    match error {
-        w26::AtPacketError::Utf8DecodeFailed => 11,
-        w26::AtPacketError::FramingDecodeFailed => 12,
-        w26::AtPacketError::TypeDecodeUnsupported => 13,
-        w26::AtPacketError::TypeDecodeParameterMissing => 14,
-        w26::AtPacketError::TypeDecodeParameterDataTypeInvalid => 15,
-        w26::AtPacketError::EventUnknown => 16,
-    }
-}
-
-fn at36_number(error: w36::AtPacketError) -> usize {
-    match error {
-        w36::AtPacketError::Utf8DecodeFailed => 11,
-        w36::AtPacketError::FramingDecodeFailed => 12,
-        w36::AtPacketError::TypeDecodeUnsupported => 13,
-        w36::AtPacketError::TypeDecodeParameterMissing => 14,
-        w36::AtPacketError::TypeDecodeParameterDataTypeInvalid => 15,
-        w36::AtPacketError::EventUnknown => 16,
-    }
 }

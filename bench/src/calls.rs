@@ -1,10 +1,10 @@
-//! The calls that are measured. Both sides of a kind take an input and, if they write, the same
-//! buffer; each is one function with a symbol of its own, so that callgrind can tell them apart.
+//! The calls that are measured. All sides of a kind take an input and, if they write, the same buffer;
+//! each is one function with a symbol of its own, so that callgrind can tell them apart.
 
 use std::hint::black_box;
 
 use crate::inputs::Place;
-use crate::{ours, rust};
+use crate::{gateway, ours, rust};
 
 /// Input, its length, the buffer to write to, its length. Readers leave the buffer alone.
 pub type Call = extern "C" fn(*const u8, usize, *mut u8, usize);
@@ -29,54 +29,47 @@ pub enum Kind {
 pub enum Side {
     Rust,
     Ours,
+    Crate,
 }
 
 impl Side {
-    pub const BOTH: [Side; 2] = [Side::Rust, Side::Ours];
+    pub const ALL: [Side; 3] = [Side::Rust, Side::Ours, Side::Crate];
 
     pub fn name(self) -> &'static str {
         match self {
             Side::Rust => "rust",
             Side::Ours => "ours",
+            Side::Crate => "crate",
         }
     }
 
     pub fn named(name: &str) -> Option<Side> {
-        Side::BOTH.into_iter().find(|side| side.name() == name)
+        Side::ALL.into_iter().find(|side| side.name() == name)
     }
+}
+
+/// The function of a module that does what the kind says.
+macro_rules! call_of {
+    ($kind:expr, $module:ident) => {
+        match $kind {
+            Kind::Frame => $module::frame,
+            Kind::W26 => $module::w26,
+            Kind::W36 => $module::w36,
+            Kind::Binary => $module::w36_binary,
+            Kind::Response => $module::response,
+            Kind::Utf8 => $module::utf8,
+            Kind::WriteData => $module::write_data,
+            Kind::WriteRequest => $module::write_request,
+        }
+    };
 }
 
 impl Kind {
     pub fn call(self, side: Side) -> Call {
         match side {
-            Side::Rust => self.rust(),
-            Side::Ours => self.ours(),
-        }
-    }
-
-    fn rust(self) -> Call {
-        match self {
-            Kind::Frame => rust::bench_rust_frame,
-            Kind::W26 => rust::bench_rust_w26,
-            Kind::W36 => rust::bench_rust_w36,
-            Kind::Binary => rust::bench_rust_w36_binary,
-            Kind::Response => rust::bench_rust_response,
-            Kind::Utf8 => rust::bench_rust_utf8,
-            Kind::WriteData => rust::bench_rust_write_data,
-            Kind::WriteRequest => rust::bench_rust_write_request,
-        }
-    }
-
-    fn ours(self) -> Call {
-        match self {
-            Kind::Frame => ours::bench_ours_frame,
-            Kind::W26 => ours::bench_ours_w26,
-            Kind::W36 => ours::bench_ours_w36,
-            Kind::Binary => ours::bench_ours_w36_binary,
-            Kind::Response => ours::bench_ours_response,
-            Kind::Utf8 => ours::bench_ours_utf8,
-            Kind::WriteData => ours::bench_ours_write_data,
-            Kind::WriteRequest => ours::bench_ours_write_request,
+            Side::Rust => call_of!(self, rust),
+            Side::Ours => call_of!(self, ours),
+            Side::Crate => call_of!(self, gateway),
         }
     }
 }

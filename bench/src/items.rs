@@ -27,7 +27,7 @@ impl Item {
     fn given(&self, side: Side) -> &Place {
         match side {
             Side::Rust => self.rust_input.as_ref().unwrap_or(&self.input),
-            Side::Ours => &self.input,
+            Side::Ours | Side::Crate => &self.input,
         }
     }
 
@@ -84,7 +84,7 @@ pub fn buffer() -> Place {
     Place::of_frame(&[0; ROOM])
 }
 
-/// The first item on which the two sides part ways ends it all.
+/// The first item on which the sides part ways ends it all.
 pub fn check(items: &[Item]) -> Result<(), String> {
     items.iter().try_for_each(Item::check)
 }

@@ -1,9 +1,11 @@
-//! Holds the cost of the archive's calls against those of the Rust. `bench/run` runs it under callgrind.
+//! Holds the cost of the archive's calls, and of the crate's that are made of them, against those of the
+//! Rust. `bench/run` runs it under callgrind.
 
 #![feature(ptr_metadata)]
 
 mod agree;
 mod calls;
+mod gateway;
 mod growth;
 mod inputs;
 mod items;
@@ -23,8 +25,8 @@ use std::process::ExitCode;
 
 use calls::Side;
 
-const USAGE: &str = "usage: bench list | rustc | once NAME rust|ours COUNT | all COUNT | times | \
-                     report COUNTS TIMES";
+const USAGE: &str = "usage: bench list | rustc | once NAME rust|ours|crate COUNT | all COUNT | \
+                     times | report COUNTS TIMES";
 
 fn main() -> ExitCode {
     let words: Vec<String> = std::env::args().skip(1).collect();
@@ -39,7 +41,7 @@ fn main() -> ExitCode {
     }
 }
 
-/// Ok(false) is a bar that was missed; Err is a difference between the two sides or a wrong use.
+/// Ok(false) is a bar that was missed; Err is a difference between the sides or a wrong use.
 fn run(words: &[&str]) -> Result<bool, String> {
     match words {
         ["list"] => list(),
@@ -65,7 +67,7 @@ fn list() {
 
 fn once(name: &str, side: &str, count: u64) -> Result<(), String> {
     let item = items::named(name).ok_or(format!("there is no row {name}"))?;
-    let side = Side::named(side).ok_or("a side is rust or ours")?;
+    let side = Side::named(side).ok_or("a side is rust, ours or crate")?;
     item.check()?;
     item.run(side, &mut items::buffer(), count);
     Ok(())
@@ -78,7 +80,7 @@ fn all(count: u64) -> Result<(), String> {
     items::check(&items)?;
     let mut buffer = items::buffer();
     for item in &items {
-        for side in Side::BOTH {
+        for side in Side::ALL {
             item.run(side, &mut buffer, count);
             bench_done();
             println!("{} {} {count}", item.name, side.name());
@@ -98,8 +100,8 @@ fn times() -> Result<(), String> {
     items::check(&items)?;
     let mut buffer = items::buffer();
     for item in &items {
-        let [rust, ours] = times::medians(item, &mut buffer);
-        println!("{} {rust:.1} {ours:.1}", item.name);
+        let [rust, ours, through] = times::medians(item, &mut buffer);
+        println!("{} {rust:.1} {ours:.1} {through:.1}", item.name);
     }
     Ok(())
 }

@@ -8,14 +8,14 @@ use crate::growth::{self, Series};
 use crate::items::sized;
 use crate::rows;
 
-/// Instructions per call, by name: the Rust's, ours.
-type Counts = HashMap<String, [f64; 2]>;
+/// Instructions per call, by name: the Rust's, ours, the crate's.
+type Counts = HashMap<String, [f64; 3]>;
 
 /// A cost per byte below this is none: the input's length is then not looked at.
 const FLAT: f64 = 0.005;
 
-/// COUNTS has lines `NAME SIDE CALLS INSTRUCTIONS`, TIMES has lines `NAME RUST OURS`. True if every
-/// bar was met.
+/// COUNTS has lines `NAME SIDE CALLS INSTRUCTIONS`, TIMES has lines `NAME RUST OURS CRATE`. True if
+/// every bar was met.
 pub fn print(counts: &str, times: &str) -> Result<bool, String> {
     let counts = counts_of(&read(counts)?)?;
     let times = times_of(&read(times)?)?;
@@ -36,9 +36,9 @@ fn counts_of(text: &str) -> Result<Counts, String> {
         let [name, side, calls, total] = words[..] else {
             return Err(format!("not a count: {line}"));
         };
-        let place = Side::BOTH.iter().position(|known| known.name() == side);
+        let place = Side::ALL.iter().position(|known| known.name() == side);
         let place = place.ok_or(format!("not a side: {line}"))?;
-        let entry = counts.entry(name.to_string()).or_insert([f64::NAN; 2]);
+        let entry = counts.entry(name.to_string()).or_insert([f64::NAN; 3]);
         entry[place] = number(total)? / number(calls)?;
     }
     Ok(counts)
@@ -48,10 +48,10 @@ fn times_of(text: &str) -> Result<Counts, String> {
     let mut times = Counts::new();
     for line in text.lines() {
         let words: Vec<&str> = line.split_whitespace().collect();
-        let [name, rust, ours] = words[..] else {
+        let [name, rust, ours, through] = words[..] else {
             return Err(format!("not a time: {line}"));
         };
-        times.insert(name.to_string(), [number(rust)?, number(ours)?]);
+        times.insert(name.to_string(), [number(rust)?, number(ours)?, number(through)?]);
     }
     Ok(times)
 }
@@ -60,28 +60,33 @@ fn number(word: &str) -> Result<f64, String> {
     word.parse().map_err(|_| format!("{word} is no number"))
 }
 
-fn get(counts: &Counts, name: &str) -> Result<[f64; 2], String> {
+fn get(counts: &Counts, name: &str) -> Result<[f64; 3], String> {
     match counts.get(name) {
-        Some(both) if both.iter().all(|value| value.is_finite()) => Ok(*both),
-        _ => Err(format!("{name} was not measured on both sides")),
+        Some(all) if all.iter().all(|value| value.is_finite()) => Ok(*all),
+        _ => Err(format!("{name} was not measured on all sides")),
     }
 }
 
 fn print_rows(counts: &Counts, times: &Counts) -> Result<bool, String> {
-    println!("| row | Rust, instructions | ours | ratio | bar | met | Rust, ns | ours, ns |");
-    println!("|---|---|---|---|---|---|---|---|");
+    println!(
+        "| row | Rust, instructions | ours | ratio | bar | met | crate | ratio | Rust, ns | ours, ns \
+         | crate, ns |"
+    );
+    println!("|---|---|---|---|---|---|---|---|---|---|---|");
     let mut all_met = true;
     for row in rows::all() {
-        let [rust, ours] = get(counts, row.name)?;
-        let [rust_time, ours_time] = get(times, row.name)?;
+        let [rust, ours, through] = get(counts, row.name)?;
+        let [rust_time, ours_time, time_through] = get(times, row.name)?;
         let ratio = ours / rust;
         let met = ratio <= row.bar;
         all_met &= met;
         println!(
-            "| {} | {rust} | {ours} | {ratio:.3} | {:.1} | {} | {rust_time:.1} | {ours_time:.1} |",
+            "| {} | {rust} | {ours} | {ratio:.3} | {:.1} | {} | {through} | {:.3} | {rust_time:.1} \
+             | {ours_time:.1} | {time_through:.1} |",
             row.what,
             row.bar,
             if met { "yes" } else { "NO" },
+            through / rust,
         );
     }
     Ok(all_met)
@@ -91,7 +96,7 @@ fn print_growth(counts: &Counts) -> Result<(), String> {
     println!("| growth | bytes | side | instructions | per byte, size to size | greatest rise |");
     println!("|---|---|---|---|---|---|");
     for series in growth::ALL {
-        for (place, side) in Side::BOTH.into_iter().enumerate() {
+        for (place, side) in Side::ALL.into_iter().enumerate() {
             print_series(counts, series, place, side)?;
         }
     }
