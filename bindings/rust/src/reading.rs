@@ -52,7 +52,8 @@ impl<'a> FromRow<'a> for Said<'a> {
     }
 }
 
-/// Numbers in the width of their field. None is too large for it, by the theorems that `sys` names.
+/// Numbers in the width of their field. None is too large for it: those of events by the theorems
+/// that `sys` names, and a packet's own since they are one or two bytes of the frame.
 impl Answer<'_, '_> {
     #[inline]
     pub(crate) fn u8(&mut self) -> u8 {
