@@ -1,0 +1,11 @@
+pub mod Check
+pub mod Number
+pub mod Line
+pub mod Response
+pub mod Binary
+pub mod Frame
+pub mod Slot
+pub mod Part
+pub mod Came
+pub mod Explained
+pub mod Steps
