@@ -2,9 +2,9 @@
 
 use crate::judged::w26x::at_protocol::AtPacketError;
 use crate::judged::w26x::edm_protocol::{EdmPacket, EdmPacketError};
-use crate::record::{self, Call, Reader};
+use crate::record::{self, Call, Explained, Reader};
 use crate::rows::{self, Row};
-use crate::{differences, rust, show, walk, why, writer};
+use crate::{differences, explain, rust, show, walk, why, writer};
 
 /// A panic that document 01 has no answer for.
 pub const PANIC: &str = "PANIC";
@@ -64,6 +64,14 @@ impl Answerer {
                 let start = out.len();
                 read(reader, bytes, bed, out)?;
                 why::carry(reader, bytes, start, out)
+            }
+            Call::Explain(kind) => {
+                let start = out.len();
+                match kind {
+                    Explained::Read(reader) => read(reader, bytes, bed, out)?,
+                    Explained::Response => response(bytes, out)?,
+                }
+                explain::answer(kind, bytes, start, out)
             }
             Call::Walk36 => walk::answer(bytes, out),
             Call::Response => response(bytes, out),

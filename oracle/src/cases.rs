@@ -7,13 +7,14 @@
 use crate::hex;
 
 /// The files that are also the first part of the recorded list.
-pub const RECORDED: [&str; 6] = [
+pub const RECORDED: [&str; 7] = [
     include_str!("../cases/examples.txt"),
     include_str!("../cases/rules.txt"),
     include_str!("../cases/corners.txt"),
     include_str!("../cases/walks.txt"),
     include_str!("../cases/bluetooth.txt"),
     include_str!("../cases/why.txt"),
+    include_str!("../cases/explain.txt"),
 ];
 /// Inputs too long for a list that is kept.
 pub const LONG: &str = include_str!("../cases/long.txt");
@@ -42,7 +43,7 @@ fn question(text: &str) -> Option<Vec<u8>> {
     let words = match text.split(' ').next()? {
         "resend" => return Some(text.into()),
         "data" => 3,
-        "request" | "again26" | "again36" => 2,
+        "request" | "again26" | "again36" | "explain" => 2,
         _ => 1,
     };
     let at = text.match_indices(' ').nth(words - 1)?.0 + 1;

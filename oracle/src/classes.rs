@@ -3,7 +3,7 @@
 
 use std::collections::BTreeMap;
 
-use crate::{lines, record, walk};
+use crate::{explain, lines, record, walk};
 
 /// The words that name the answer: a wrapper has what it wraps after it, and `refused` the refusal,
 /// which may have the field and the reason.
@@ -22,9 +22,13 @@ fn class(answer: &str) -> String {
 
 /// The class of an answer after the kind of its question, since the radios share some names.
 pub fn label(question: &[u8], answer: &[u8]) -> String {
-    let kind = question.split(|&b| b == b' ').next().unwrap_or(question);
+    let question = String::from_utf8_lossy(question);
     let answer = String::from_utf8_lossy(answer);
-    format!("{} {}", String::from_utf8_lossy(kind), class(&answer))
+    let mut words = question.split(' ');
+    match (words.next(), words.next()) {
+        (Some("explain"), Some(kind)) => format!("explain {kind} {}", explain::class(&answer)),
+        (kind, _) => format!("{} {}", kind.unwrap_or_default(), class(&answer)),
+    }
 }
 
 #[derive(Default)]

@@ -11,6 +11,7 @@ mod cases;
 mod classes;
 mod compare;
 mod differences;
+mod explain;
 mod generate;
 mod hex;
 mod lines;

@@ -1,7 +1,8 @@
 //! Every class of answer that each kind of question can have. What the generator and the recorded
 //! list reach is held against this.
 
-use crate::record::Reader;
+use crate::record::{Explained, Reader};
+use crate::why::Amiss;
 use crate::{amiss, walk};
 
 const W26_EVENTS: [&str; 26] = [
@@ -87,6 +88,58 @@ const FRAME_PACKETS: [&str; 9] = [
     "StartEvent",
 ];
 
+/// The checks of 01 that are not about a field, each with its refusal.
+const FRAME_CHECKS: [&str; 12] = [
+    "1 PacketDecodeFramingInvalid FrameOfTwo",
+    "1 PacketDecodeFramingInvalid StartByte",
+    "1 PacketDecodeFramingInvalid EndByte",
+    "2 PacketDecodeTargetMemorySizeInvalid FrameOfSix",
+    "3 PacketTypeDecodeLengthMismatch FrameLength",
+    "4 PayloadTypeUnknown Identifier",
+    "2 PacketDecodeTargetMemorySizeInvalid ConnectOfTwo",
+    "5 ConnectEventUnsupported ConnectType",
+    "6 ConnectEventDecodeError ConnectSize",
+    "7 DisconnectEventDecodeError DisconnectSize",
+    "2 PacketDecodeTargetMemorySizeInvalid DataChannel",
+    "8 AtRequestEventDecodeError RequestUtf8",
+];
+
+const LINE_CHECKS: [&str; 5] = [
+    "11 Utf8DecodeFailed Utf8",
+    "12 FramingDecodeFailed LineOfTwo",
+    "12 FramingDecodeFailed PlaceTwo",
+    "12 FramingDecodeFailed LineEnd",
+    "16 EventUnknown EventName",
+];
+
+const RESPONSE_CHECKS: [&str; 3] = [
+    "11 Utf8DecodeFailed Utf8",
+    "12 FramingDecodeFailed FirstLineEnd",
+    "12 FramingDecodeFailed LastLineEnd",
+];
+
+const BINARY_CHECKS: [&str; 4] = [
+    "12 FramingDecodeFailed Marker",
+    "11 Utf8DecodeFailed Utf8",
+    "12 FramingDecodeFailed LengthBytes",
+    "12 FramingDecodeFailed DataBytes",
+];
+
+/// The type of a peer is W26's second field.
+const TYPE_CHECK: [&str; 1] = ["13 TypeDecodeUnsupported FieldType2"];
+
+/// The fields of what is accepted: of a payload and of a response, and how many an event may have.
+const PAYLOAD_PARTS: [&str; 5] = [
+    "",
+    " Channel ConnectType Protocol RemoteAddress RemotePort LocalAddress LocalPort",
+    " Channel",
+    " Channel Data",
+    " Text",
+];
+const W26_FIELDS: [usize; 7] = [0, 1, 2, 3, 4, 5, 7];
+const W36_FIELDS: [usize; 4] = [0, 1, 2, 3];
+const BINARY_FIELDS: [usize; 2] = [1, 3];
+
 const OTHERS: [&str; 17] = [
     "response Ok",
     "response Error",
@@ -112,6 +165,9 @@ pub fn labels() -> Vec<String> {
     let mut labels: Vec<String> = OTHERS.iter().map(|label| label.to_string()).collect();
     for reader in Reader::ALL {
         add_read(&mut labels, reader);
+    }
+    for kind in Explained::ALL {
+        add_explained(&mut labels, kind);
     }
     for count in walk::COUNTS {
         add(&mut labels, &format!("walk36 {count} "), &["end"]);
@@ -162,4 +218,65 @@ fn add_without_field(labels: &mut Vec<String>, reader: Reader, word: &str, refus
         add(labels, &format!("{word} "), &FRAME_PACKETS);
         add(labels, &format!("{word} refused "), &FRAME_REFUSALS);
     }
+}
+
+fn add_explained(labels: &mut Vec<String>, kind: Explained) {
+    let refused = format!("explain {} refused ", kind.word());
+    let reader = match kind {
+        Explained::Read(reader) => reader,
+        Explained::Response => {
+            add(labels, &refused, &RESPONSE_CHECKS);
+            return add(labels, "explain response accepted", &["", " Text"]);
+        }
+    };
+    let checks: &[&str] = if reader == Reader::Binary { &BINARY_CHECKS } else { &LINE_CHECKS };
+    add(labels, &refused, checks);
+    for flaw in amiss::flaws(reader) {
+        let label = format!("{refused}{}", check(flaw.found.amiss, flaw.found.field));
+        if !labels.contains(&label) {
+            labels.push(label);
+        }
+    }
+    if matches!(reader, Reader::Frame | Reader::W26) {
+        add(labels, &refused, &TYPE_CHECK);
+    }
+    if reader == Reader::Frame {
+        add(labels, &refused, &FRAME_CHECKS);
+        add(labels, &refused, &RESPONSE_CHECKS[1..]);
+    }
+    labels.extend(accepted(reader));
+}
+
+fn check(amiss: Amiss, field: usize) -> String {
+    let (number, name) = match amiss {
+        Amiss::Missing => (14, "FieldThere"),
+        Amiss::Type => (13, "FieldType"),
+        Amiss::Empty => (15, "FieldEmpty"),
+        Amiss::Byte => (15, "FieldByte"),
+        Amiss::Large => (15, "FieldLarge"),
+        Amiss::List => (15, "FieldListed"),
+    };
+    format!("{number} {} {name}{field}", amiss.refusal())
+}
+
+/// The classes of what a reader accepts, by the names of the fields.
+fn accepted(reader: Reader) -> Vec<String> {
+    let event = |count: usize| {
+        let fields: Vec<String> = (1..=count).map(|field| format!(" Field{field}")).collect();
+        format!(" Name{}", fields.concat())
+    };
+    let (parts, before, after): (Vec<String>, _, _) = match reader {
+        Reader::Frame => {
+            let payloads = PAYLOAD_PARTS.iter().map(|parts| parts.to_string());
+            let parts = payloads.chain(W26_FIELDS.into_iter().map(event)).collect();
+            (parts, " StartByte Length Identifier", " EndByte")
+        }
+        Reader::W26 => (W26_FIELDS.into_iter().map(event).collect(), "", ""),
+        Reader::W36 => (W36_FIELDS.into_iter().map(event).collect(), "", ""),
+        Reader::Binary => {
+            (BINARY_FIELDS.into_iter().map(event).collect(), "", " Marker DataLength Data")
+        }
+    };
+    let label = |parts: String| format!("explain {} accepted{before}{parts}{after}", reader.word());
+    parts.into_iter().map(label).collect()
 }

@@ -35,12 +35,39 @@ impl Reader {
     }
 }
 
+/// What is explained: what a reader reads, or a response.
+#[derive(Clone, Copy, PartialEq)]
+pub enum Explained {
+    Read(Reader),
+    Response,
+}
+
+impl Explained {
+    pub const ALL: [Explained; 5] = [
+        Explained::Read(Reader::Frame),
+        Explained::Read(Reader::W26),
+        Explained::Read(Reader::W36),
+        Explained::Read(Reader::Binary),
+        Explained::Response,
+    ];
+
+    /// The second word of the question.
+    pub fn word(self) -> &'static str {
+        match self {
+            Explained::Read(reader) => reader.word(),
+            Explained::Response => "response",
+        }
+    }
+}
+
 /// One question. The bytes that it is about stand beside it. Why is Read with the field and the reason
-/// of a refusal (02, request 5).
+/// of a refusal (02, request 5), Explain has the check that refused or the bytes of each field (02,
+/// request 6).
 #[derive(Clone, Copy)]
 pub enum Call {
     Read(Reader),
     Why(Reader),
+    Explain(Explained),
     Walk36,
     Response,
     Data { size: usize, channel: u8 },
@@ -51,10 +78,20 @@ pub enum Call {
 }
 
 impl Call {
+    /// What is explained of the same bytes. None for a walk and for what is written.
+    pub fn explained(self) -> Option<Explained> {
+        match self {
+            Call::Read(reader) | Call::Why(reader) => Some(Explained::Read(reader)),
+            Call::Response => Some(Explained::Response),
+            _ => None,
+        }
+    }
+
     pub fn word(self) -> &'static str {
         match self {
             Call::Read(reader) => reader.word(),
             Call::Why(reader) => reader.why_word(),
+            Call::Explain(_) => "explain",
             Call::Walk36 => "walk36",
             Call::Response => "response",
             Call::Data { .. } => "data",
@@ -79,6 +116,7 @@ pub fn parse(line: &[u8], bytes: &mut Vec<u8>) -> Option<Call> {
     let mut words = line.split(|&b| b == b' ');
     let kind = words.next()?;
     let call = match kind {
+        b"explain" => Call::Explain(explained(words.next()?)?),
         b"walk36" => Call::Walk36,
         b"response" => Call::Response,
         b"data" => Call::Data {
@@ -105,6 +143,10 @@ fn read(word: &[u8]) -> Option<Call> {
     plain.map(|&reader| Call::Read(reader)).or(why.map(|&reader| Call::Why(reader)))
 }
 
+fn explained(word: &[u8]) -> Option<Explained> {
+    Explained::ALL.into_iter().find(|kind| kind.word().as_bytes() == word)
+}
+
 fn size(word: &[u8]) -> Option<usize> {
     number(word).filter(|&n| n <= LARGEST_SIZE)
 }
@@ -118,6 +160,10 @@ pub fn push(out: &mut Vec<u8>, call: Call, bytes: &[u8]) {
     out.extend_from_slice(call.word().as_bytes());
     match call {
         Call::Read(_) | Call::Why(_) | Call::Walk36 | Call::Response => {}
+        Call::Explain(kind) => {
+            out.push(b' ');
+            out.extend_from_slice(kind.word().as_bytes());
+        }
         Call::Data { size, channel } => push_numbers(out, &[size, channel as usize]),
         Call::Request { size }
         | Call::Resend { size }

@@ -4,7 +4,7 @@
 use std::collections::{BTreeMap, BTreeSet};
 
 use crate::answer::Answerer;
-use crate::record::{self, Call, Reader};
+use crate::record::{self, Call, Explained, Reader};
 use crate::{amiss, cases, classes, generate};
 
 /// Drawn from the generator to find lines of every class.
@@ -152,6 +152,7 @@ fn field_flaws(out: &mut Vec<u8>) {
     for reader in [Reader::W26, Reader::W36, Reader::Binary] {
         for flaw in amiss::flaws(reader) {
             record::push(out, Call::Why(reader), &flaw.line(reader));
+            record::push(out, Call::Explain(Explained::Read(reader)), &flaw.line(reader));
         }
     }
 }
@@ -188,11 +189,14 @@ fn sample_by_class(out: &mut Vec<u8>) {
     }
     // No other label comes after these.
     let why = found.split_off("why");
-    for (label, kept) in found {
+    let (explain, plain) = found.into_iter().partition(|(label, _)| label.starts_with("explain"));
+    let plain: BTreeMap<String, Vec<Vec<u8>>> = plain;
+    for (label, kept) in plain {
         push_heading(out, &format!("# Generated: {label}"));
         kept.iter().for_each(|line| push_line(out, line));
     }
-    push_new_classes(out, why);
+    push_new_classes(out, "why", why);
+    push_new_classes(out, "explain", explain);
 }
 
 fn label(answerer: &mut Answerer, line: &[u8]) -> String {
@@ -201,13 +205,13 @@ fn label(answerer: &mut Answerer, line: &[u8]) -> String {
     classes::label(line, &answer)
 }
 
-/// The questions that ask why share most classes with the plain ones, and the lines above have many of
-/// their own. One line of each class that is still missing is enough.
-fn push_new_classes(out: &mut Vec<u8>, found: BTreeMap<String, Vec<Vec<u8>>>) {
+/// The questions that ask why, or to explain, share most classes with the plain ones, and the lines
+/// above have many of their own. One line of each class that is still missing is enough.
+fn push_new_classes(out: &mut Vec<u8>, word: &str, found: BTreeMap<String, Vec<Vec<u8>>>) {
     let mut answerer = Answerer::default();
-    let above = out.split(|&b| b == b'\n').filter(|line| line.starts_with(b"why"));
+    let above = out.split(|&b| b == b'\n').filter(|line| line.starts_with(word.as_bytes()));
     let above: BTreeSet<_> = above.map(|line| label(&mut answerer, line)).collect();
-    push_heading(out, "# Generated: further classes of the questions that ask why");
+    push_heading(out, &format!("# Generated: further classes of the questions that ask {word}"));
     let new = found.iter().filter(|(label, _)| !above.contains(*label));
     new.filter_map(|(_, kept)| kept.first()).for_each(|line| push_line(out, line));
 }

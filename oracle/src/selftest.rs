@@ -7,7 +7,7 @@ use crate::judged::w26x::edm_protocol::{EdmPacket, EdmPacketError, EDM_PACKET_WI
 use crate::{cases, differences, generate, reach, record, recorded, rust, slips};
 
 /// Enough draws for every class, and quick.
-const DRAWN: usize = 400_000;
+const DRAWN: usize = 600_000;
 
 /// True if nothing is amiss. What is amiss is printed.
 pub fn run() -> Result<bool, String> {

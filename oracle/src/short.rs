@@ -1,5 +1,5 @@
 //! Every string up to some length over a few symbols, bare and after the beginnings of events. What a
-//! reader reads is asked about with both of its words.
+//! reader reads is asked about with both of its words, and explained, as responses are.
 
 use crate::record::{self, Call, Reader};
 
@@ -126,6 +126,9 @@ impl Set {
                 record::push(out, self.call, &string);
                 if let Call::Read(reader) = self.call {
                     record::push(out, Call::Why(reader), &string);
+                }
+                if let Some(kind) = self.call.explained() {
+                    record::push(out, Call::Explain(kind), &string);
                 }
             }
         }

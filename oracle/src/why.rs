@@ -120,7 +120,8 @@ fn line_of_frame(frame: &[u8]) -> Option<&[u8]> {
     rust::event_line(frame).filter(|_| whole)
 }
 
-fn text_line<'a>(rows: &'static [Row], text: &'a str) -> Option<Line<'a>> {
+/// None for a name that is not in the list.
+pub fn text_line<'a>(rows: &'static [Row], text: &'a str) -> Option<Line<'a>> {
     let (name, fields) = table::cut(text);
     let mut of_name = rows.iter().filter(|row| row.0 == name);
     let &(name, row) = of_name.next()?;
@@ -133,13 +134,17 @@ fn text_line<'a>(rows: &'static [Row], text: &'a str) -> Option<Line<'a>> {
     Some(line)
 }
 
-/// 01, "W36 binary": "the first byte 01", and "the bytes before it UTF-8". There are at most as many
-/// fields as the row has: "not cut at any comma" for one, "cut at the first two commas only" for three.
+/// 01, "W36 binary": "the first byte 01", and "the bytes before it UTF-8".
 fn binary_line<'a>(&(name, row): &Row, bytes: &'a [u8]) -> Option<Line<'a>> {
     let rest = bytes.strip_prefix(b"\r\n")?.strip_prefix(name.as_bytes())?.strip_prefix(b":")?;
     let marker = rest.iter().position(|&b| b == 1)?;
-    let text = std::str::from_utf8(&rest[..marker]).ok()?;
-    Some(Line { name, row, fields: text.splitn(row.len(), ',').collect() })
+    Some(marked_line(&(name, row), std::str::from_utf8(&rest[..marker]).ok()?))
+}
+
+/// The text before the marker of a row's event. There are at most as many fields as the row has: "not cut
+/// at any comma" for one, "cut at the first two commas only" for three.
+pub fn marked_line<'a>(&(name, row): &Row, text: &'a str) -> Line<'a> {
+    Line { name, row, fields: text.splitn(row.len(), ',').collect() }
 }
 
 fn wrong_form(field: Field, text: &str) -> Option<Amiss> {

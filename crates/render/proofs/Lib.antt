@@ -15,3 +15,7 @@ pub mod ResponseRoom
 pub mod WalkRoom
 pub mod FrameRoom
 pub mod WhyRoom
+pub mod ExplainedLaws
+pub mod PartRoom
+pub mod CheckRoom
+pub mod ExplainedRoom

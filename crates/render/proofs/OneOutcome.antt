@@ -18,6 +18,11 @@ use Rattle.render.proofs.why.w26 as why_w26
 use Rattle.render.proofs.why.w36 as why_w36
 use Rattle.render.proofs.why.binary as why_binary
 use Rattle.render.proofs.why.frame as why_frame
+use Rattle.render.proofs.explained.frame as explained_frame
+use Rattle.render.proofs.explained.w26 as explained_w26
+use Rattle.render.proofs.explained.w36 as explained_w36
+use Rattle.render.proofs.explained.binary as explained_binary
+use Rattle.render.proofs.explained.response as explained_response
 use Rattle.render.proofs.written.frame as written_frame
 use Rattle.render.proofs.written.event as written_event
 
@@ -74,3 +79,19 @@ one-why-binary κs a x y s t p q = printed-once p q
 
 pub one-why-frame : One 2 why_frame.Kinds.ps why_frame.Kinds.r why_frame.Reads.Post (λ κs x s. outcome x (s .0 .now))
 one-why-frame κs a x y s t p q = printed-once p q
+
+-- explanations
+pub one-explained-frame : One 2 explained_frame.Kinds.ps explained_frame.Kinds.r explained_frame.Reads.Post (λ κs x s. outcome x (s .0 .now))
+one-explained-frame κs a x y s t p q = printed-once p q
+
+pub one-explained-w26 : One 2 explained_w26.Kinds.ps explained_w26.Kinds.r explained_w26.Reads.Post (λ κs x s. outcome x (s .0 .now))
+one-explained-w26 κs a x y s t p q = printed-once p q
+
+pub one-explained-w36 : One 2 explained_w36.Kinds.ps explained_w36.Kinds.r explained_w36.Reads.Post (λ κs x s. outcome x (s .0 .now))
+one-explained-w36 κs a x y s t p q = printed-once p q
+
+pub one-explained-binary : One 2 explained_binary.Kinds.ps explained_binary.Kinds.r explained_binary.Reads.Post (λ κs x s. outcome x (s .0 .now))
+one-explained-binary κs a x y s t p q = printed-once p q
+
+pub one-explained-response : One 2 explained_response.Kinds.ps explained_response.Kinds.r explained_response.Reads.Post (λ κs x s. outcome x (s .0 .now))
+one-explained-response κs a x y s t p q = printed-once p q

@@ -8,3 +8,5 @@ pub mod Walk
 pub mod Written
 pub mod Steps
 pub mod Why
+pub mod Label
+pub mod Explained

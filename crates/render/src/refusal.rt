@@ -12,7 +12,7 @@ ghost use Rattle.render.specs.Print.{Prints};
 ghost use Rattle.render.specs.Words.{nameIn};
 ghost use Rattle.render.specs.Refusal.{refusals, refusedLine, frameRefusedLine};
 
-fn refusal_name(buf: &mut [u8], at: usize, n: usize) -> usize
+pub(crate) fn refusal_name(buf: &mut [u8], at: usize, n: usize) -> usize
     ensures { λ r. ⌜ Prints (now (buf .entry)) at (nameIn refusals n) r (now (buf .exit)) ⌝ }
 {
     let names = b"\x01\x1aPacketDecodeFramingInvalid\

@@ -12,8 +12,10 @@ use Rattle.text.specs.Find.{firstOf}
 use Rattle.replay.specs.declared.question.Writer.the-variants as writer
 use Rattle.replay.specs.declared.question.Kind.{Kind}
 use Rattle.replay.specs.declared.question.Kind.the-variants as kind
+use Rattle.replay.specs.declared.question.Explainable.{Explainable}
+use Rattle.replay.specs.declared.question.Explainable.the-variants as explainable
 use Rattle.replay.specs.Hex.{digitOf, isDigit, Spelt, spells, noHex, prepend, pairs, someBytes, bytesIn}
-use Rattle.replay.specs.Question.{Amount, amount, noAmount, Cut, cut, whole, atSpace, Sized, sized, unsized, followedBy, ofCut, numberIn, numberThen, Asked, reads, writes, resends, nothing, withSize, withChannel, withSizeAndChannel, withSizeAlone, byKind, byWord, kindOf, words, asked}
+use Rattle.replay.specs.Question.{Amount, amount, noAmount, Cut, cut, whole, atSpace, Sized, sized, unsized, followedBy, ofCut, numberIn, numberThen, Asked, reads, writes, resends, nothing, withSize, withChannel, withSizeAndChannel, withSizeAlone, kinds, explainableBy, ofKind, withKind, byKind, byWord, kindOf, words, asked}
 
 -- The bytes that a text spells, of two digits each; none where it is no hex
 
@@ -124,6 +126,15 @@ kind-shorter kind.Resend rest = go (numberIn rest)
     go : (n : Amount) → length (hexAsked (withSizeAlone n)) ≤ length rest
     go (amount size) = omega arith
     go noAmount = omega arith
+kind-shorter kind.Explain rest = go (atSpace rest) (space-shorter rest)
+  where
+    known : (x : Explainable) (t : List ℕ) → length (hexAsked (ofKind x t)) ≤ length t
+    known (explainable.Kind x) t = omega arith
+    known explainable.Nothing t = omega arith
+
+    go : (c : Cut) → length (afterCut c) ≤ length rest → length (hexAsked (withKind c)) ≤ length rest
+    go (cut kind t) h = omega (arith, known (explainableBy kinds kind) t)
+    go whole h = h
 kind-shorter kind.Unknown rest = omega arith
 
 pub asked-shorter : (line : List ℕ) → length (hexAsked (asked line)) ≤ length line

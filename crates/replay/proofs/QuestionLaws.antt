@@ -17,7 +17,9 @@ use Rattle.text.specs.declared.number.NumberError.the-variants.{Byte}
 use Rattle.text.specs.declared.find.Found.the-variants.{At, Nothing}
 use Rattle.text.proofs.FindLaws.{from-at}
 use Rattle.replay.specs.declared.question.Kind.{Kind}
-use Rattle.replay.specs.Question.{Word, _asks_, kindOf, amount, noAmount, capped, numberIn, cut, whole, atSpace}
+use Rattle.replay.specs.declared.question.Explained.{Explained}
+use Rattle.replay.specs.declared.question.Explainable.the-variants as explainable
+use Rattle.replay.specs.Question.{Word, _asks_, kindOf, KindName, _names_, explainableBy, amount, noAmount, capped, numberIn, cut, whole, atSpace}
 
 -- a test that came out: the word that the name is decides, and past one that it is not, the words after it do
 module _ (word : String) (k : Kind) (rest : List Word) (name : List ℕ) {t : Bool} (test : t ≡ same name (bytes word)) where
@@ -28,6 +30,16 @@ module _ (word : String) (k : Kind) (rest : List Word) (name : List ℕ) {t : Bo
   pub other-word : t ≡ false → kindOf ((word asks k) ∷ rest) name ≡ kindOf rest name
   unfolding kindOf
   other-word e = rw (← test, e)
+
+-- the same of the kinds that are explained
+module _ (kind : String) (x : Explained) (rest : List KindName) (name : List ℕ) {t : Bool} (test : t ≡ same name (bytes kind)) where
+  pub this-kind : t ≡ true → explainableBy ((kind names x) ∷ rest) name ≡ explainable.Kind x
+  unfolding explainableBy
+  this-kind e = rw (← test, e)
+
+  pub other-kind : t ≡ false → explainableBy ((kind names x) ∷ rest) name ≡ explainableBy rest name
+  unfolding explainableBy
+  other-kind e = rw (← test, e)
 
 -- numbers that are capped alike stay so with a digit more
 module _ (s : List ℕ) where

@@ -30,15 +30,26 @@ use Rattle.render.proofs.ResponseRoom.{response-room}
 use Rattle.render.proofs.FrameRoom.{frame-room}
 use Rattle.render.proofs.WalkRoom.{walk-room}
 use Rattle.render.proofs.WhyRoom.{why-26-room, why-36-room, why-binary-room, why-frame-room}
+use Rattle.render.proofs.ExplainedRoom.{explain-frame-room, explain-26-room, explain-36-room, explain-binary-room, explain-response-room}
 use Rattle.replay.specs.declared.question.Reader.{Reader}
 use Rattle.replay.specs.declared.question.Reader.the-variants as reader
+use Rattle.replay.specs.declared.question.Explained.{Explained}
+use Rattle.replay.specs.declared.question.Explained.the-variants as explained
 use Rattle.replay.specs.declared.question.Writer.{Writer}
 use Rattle.replay.specs.declared.question.Writer.the-variants as writer
 use Rattle.replay.specs.Hex.{Spelt, spells, noHex, bytesIn}
 use Rattle.replay.specs.Question.{Asked, reads, writes, resends, nothing, asked}
-use Rattle.replay.specs.Reply.{readReply, writtenLine, wholeOf, packetReply, againReply, writeReply, sizedReply, tooLong, what, ofBytes, replyTo, isNote, withoutCr, shortReply, replyLine, lineReply}
+use Rattle.replay.specs.Reply.{explainReply, readReply, writtenLine, wholeOf, packetReply, againReply, writeReply, sizedReply, tooLong, what, ofBytes, replyTo, isNote, withoutCr, shortReply, replyLine, lineReply}
 use Rattle.replay.proofs.HexRoom.{bytesOf, bytes-spelt, hexAsked, asked-shorter}
 use Rattle.replay.proofs.ReplyLaws.{without-shorter}
+
+-- bytes that are explained
+explain-room : (x : Explained) (s : List ℕ) → length s ≤ 131072 → length (explainReply x s) ≤ 475135
+explain-room explained.Frame s h = omega (arith, explain-frame-room s h)
+explain-room explained.W26 s h = omega (arith, explain-26-room s h)
+explain-room explained.W36 s h = omega (arith, explain-36-room s h)
+explain-room explained.Binary s h = omega (arith, explain-binary-room s h)
+explain-room explained.Response s h = omega (arith, explain-response-room s h)
 
 -- bytes that are read
 read-room : (r : Reader) (s : List ℕ) → length s ≤ 131072 → ((i : ℕ) → getD s i 0 < 256) → length (readReply r s) ≤ 475135
@@ -52,6 +63,7 @@ read-room reader.WhyFrame s h b = omega (arith, why-frame-room s b)
 read-room reader.Why26 s h b = omega (arith, why-26-room s)
 read-room reader.Why36 s h b = omega (arith, why-36-room s)
 read-room reader.WhyBinary s h b = omega (arith, why-binary-room s)
+read-room (reader.Explain x) s h b = explain-room x s h
 
 -- bytes that were written
 wrote-room : (f : List ℕ) → length f ≤ 131072 → length (wroteLine f (length f)) ≤ 475135

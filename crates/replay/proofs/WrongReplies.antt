@@ -1,5 +1,5 @@
 -- The promise of `reply` allows one outcome only, and shuts out a program that reports the first of two events and drops the second, and one that leaves
--- out the refused field or the reason.
+-- out the refused field or the reason, or that explains a refusal by another check or byte.
 -- `reply.Reads.Post` is what `reply` ensures.
 use Prim.Native.Nat.{ℕ, _+_}
 use mathlib.Core.Path.{_≡_, refl, sym, _∙_}
@@ -26,8 +26,12 @@ use Rattle.render.specs.Words.{nameIn, numberWord, valuesLine}
 use Rattle.render.specs.Refusal.{refusals, refusedLine}
 use Rattle.render.specs.Event.{cases36, caseOf}
 use Rattle.render.specs.Walk.{walkLine}
+use Rattle.render.specs.Label.{checkNames}
+use Rattle.checks.specs.Check.{firstBroken}
+use Rattle.checks.specs.Number.{notEmpty, onlyAllowed, valueFrom, smallEnough}
+use Rattle.checks.specs.Line.{fieldChecks, kindsFor, textChecks, lineChecks}
 use Rattle.replay.specs.Hex.{pairs, bytesIn}
-use Rattle.replay.specs.Question.{words, kindOf, atSpace, asked}
+use Rattle.replay.specs.Question.{words, kindOf, kinds, explainableBy, atSpace, asked}
 use Rattle.replay.specs.Reply.{isNote, withoutCr, shortReply, replyLine, lineReply, answerLine}
 use Rattle.replay.proofs.session.reply as reply
 
@@ -74,3 +78,18 @@ first-has-byte n = refl
 -- the field and the reason are written
 pub field-reported : Replies wrongSocket firstHasByte
 field-reported = replies wrongSocket firstHasByte first-has-byte
+
+-- the same line, explained
+abbrev pub explainedSocket : List ℕ
+explainedSocket = bytes "explain w36 0d0a2b5545534f433a780d0a"
+
+abbrev pub checkShown : List ℕ
+checkShown = bytes "refused 15 TypeDecodeParameterDataTypeInvalid @9 FieldByte1\n"
+
+check-shown : (n : ℕ) → answerLine false n explainedSocket ≡ checkShown
+unfolding lineReply replyLine withoutCr shortReply isNote every asked atSpace firstOf words kindOf bytesIn pairs same startsWith fieldsFrom digitsFrom under digits signed number table37 seqLen passed validUpTo utf8 insideCharacter readField takeKind takeKinds readRow before endsIn ended framed rowsNamed fieldsAfter byType readText readLine table refusals nameIn refusedLine decimal digitsOf kinds explainableBy firstBroken notEmpty onlyAllowed valueFrom smallEnough fieldChecks kindsFor textChecks lineChecks checkNames
+check-shown n = refl
+
+-- the check and its byte are written
+pub check-reported : Replies explainedSocket checkShown
+check-reported = replies explainedSocket checkShown check-shown

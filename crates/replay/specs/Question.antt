@@ -4,6 +4,7 @@
 --   request, again26, again36                   SIZE HEX
 --   data                                        SIZE CHANNEL HEX
 --   resend                                      SIZE
+--   explain                                     KIND HEX, with frame, w26, w36, binary or response for KIND
 use Prim.Native.Nat.{ℕ, _+_, min}
 use Prim.Native.String.{String}
 use mathlib.Core.List.{List, [], _∷_}
@@ -19,6 +20,10 @@ use Rattle.replay.specs.declared.question.Writer.{Writer}
 use Rattle.replay.specs.declared.question.Writer.the-variants as writer
 use Rattle.replay.specs.declared.question.Kind.{Kind}
 use Rattle.replay.specs.declared.question.Kind.the-variants as kind
+use Rattle.replay.specs.declared.question.Explained.{Explained}
+use Rattle.replay.specs.declared.question.Explained.the-variants as explained
+use Rattle.replay.specs.declared.question.Explainable.{Explainable}
+use Rattle.replay.specs.declared.question.Explainable.the-variants as explainable
 
 pub data Word : Type 0 where
   _asks_ : String → Kind → Word
@@ -41,11 +46,30 @@ words =
     ∷ ("resend" asks kind.Resend)
     ∷ ("again26" asks kind.Write writer.Again26)
     ∷ ("again36" asks kind.Write writer.Again36)
+    ∷ ("explain" asks kind.Explain)
     ∷ []
 
 unfoldable pub kindOf : List Word → List ℕ → Kind
 kindOf [] name = kind.Unknown
 kindOf ((word asks k) ∷ rest) name = cond (same name (bytes word)) k (kindOf rest name)
+
+-- the kinds of bytes that are explained
+pub data KindName : Type 0 where
+  _names_ : String → Explained → KindName
+
+infix 30 _names_
+unfoldable pub kinds : List KindName
+kinds =
+    ("frame" names explained.Frame)
+    ∷ ("w26" names explained.W26)
+    ∷ ("w36" names explained.W36)
+    ∷ ("binary" names explained.Binary)
+    ∷ ("response" names explained.Response)
+    ∷ []
+
+unfoldable pub explainableBy : List KindName → List ℕ → Explainable
+explainableBy [] name = explainable.Nothing
+explainableBy ((kind names x) ∷ rest) name = cond (same name (bytes kind)) (explainable.Kind x) (explainableBy rest name)
 
 -- a text cut at its first space, or without one
 pub data Cut : Type 0 where
@@ -108,11 +132,20 @@ abbrev pub withSizeAlone : Amount → Asked
 withSizeAlone (amount size) = resends size
 withSizeAlone noAmount = nothing
 
+abbrev pub ofKind : Explainable → List ℕ → Asked
+ofKind (explainable.Kind x) rest = reads (reader.Explain x) rest
+ofKind explainable.Nothing rest = nothing
+
+abbrev pub withKind : Cut → Asked
+withKind (cut kind rest) = ofKind (explainableBy kinds kind) rest
+withKind whole = nothing
+
 abbrev pub byKind : Kind → List ℕ → Asked
 byKind (kind.Read r) rest = reads r rest
 byKind (kind.Write w) rest = withSize w (numberThen rest)
 byKind kind.Data rest = withSizeAndChannel (numberThen rest)
 byKind kind.Resend rest = withSizeAlone (numberIn rest)
+byKind kind.Explain rest = withKind (atSpace rest)
 byKind kind.Unknown rest = nothing
 
 abbrev pub byWord : Cut → Asked

@@ -20,6 +20,11 @@ use Rattle.edm.specs.Command as command
 use Rattle.edm.specs.declared.EdmPacket.{EdmPacket}
 use Rattle.edm.specs.declared.EdmPacket.the-variants as packet
 use Rattle.writer.specs.Write as write
+use Rattle.checks.specs.Line.{lineChecks}
+use Rattle.checks.specs.Frame.{frameChecks}
+use Rattle.checks.specs.Binary.{binaryChecks}
+use Rattle.checks.specs.Response.{responseChecks}
+use Rattle.checks.specs.Part.{Part, responseShape, lineShape, binaryShape, partsBy, frameParts}
 use Rattle.render.specs.Event.{cases26, cases36}
 use Rattle.render.specs.Event as render
 use Rattle.render.specs.Refusal.{refusedLine, frameRefusedLine}
@@ -28,12 +33,27 @@ use Rattle.render.specs.Frame.{frameLine}
 use Rattle.render.specs.Walk.{triedLine, walkLine}
 use Rattle.render.specs.Why.{whyLine, whyTriedLine, whyFrameLine}
 use Rattle.render.specs.Written.{wroteLine}
+use Rattle.render.specs.Explained.{explainsLine, explainsBinaryLine}
 use Rattle.replay.specs.declared.question.Reader.{Reader}
 use Rattle.replay.specs.declared.question.Reader.the-variants as reader
+use Rattle.replay.specs.declared.question.Explained.{Explained}
+use Rattle.replay.specs.declared.question.Explained.the-variants as explained
 use Rattle.replay.specs.declared.question.Writer.{Writer}
 use Rattle.replay.specs.declared.question.Writer.the-variants as writer
 use Rattle.replay.specs.Hex.{Spelt, spells, noHex, bytesIn}
 use Rattle.replay.specs.Question.{Asked, reads, writes, resends, nothing, asked}
+
+-- the fields of an event that was read from the line s
+abbrev pub lineParts : List ℕ → ReadEvent → List Part
+lineParts s e = partsBy (lineShape (length s) e) s 0
+
+-- the bytes s, explained
+abbrev pub explainReply : Explained → List ℕ → List ℕ
+explainReply explained.Frame s = explainsLine (frameChecks s) (readFrame s) (frameParts s)
+explainReply explained.W26 s = explainsLine (lineChecks w26 0 s) (readLine w26 0 s) (lineParts s)
+explainReply explained.W36 s = explainsLine (lineChecks w36 0 s) (readLine w36 0 s) (lineParts s)
+explainReply explained.Binary s = explainsBinaryLine (binaryChecks binaryTable 0 s) (tryRows binaryTable 0 s) (λ e. partsBy (binaryShape (length s) e) s 0)
+explainReply explained.Response s = explainsLine (responseChecks 0 s) (readResponse 0 s) (λ a. partsBy (responseShape 0 a) s 0)
 
 -- the bytes s, read
 abbrev pub readReply : Reader → List ℕ → List ℕ
@@ -47,6 +67,7 @@ readReply reader.WhyFrame s = whyFrameLine s (readFrame s)
 readReply reader.Why26 s = whyLine cases26 s (readLine w26 0 s)
 readReply reader.Why36 s = whyLine cases36 s (readLine w36 0 s)
 readReply reader.WhyBinary s = whyTriedLine s (tryRows binaryTable 0 s)
+readReply (reader.Explain x) s = explainReply x s
 
 -- what was written, or the refusal, whose line is `refusal`
 abbrev pub writtenLine : (ℕ → List ℕ) → OrRefused (List ℕ) → List ℕ

@@ -1,6 +1,7 @@
 // The answer to a line.
 use crate::decode::Decoded;
 use crate::decode::hex;
+use crate::question::Explained;
 use crate::question::Question;
 use crate::question::Reader;
 use crate::question::Writer;
@@ -29,7 +30,7 @@ ghost use Rattle.at.specs.W36.{w36, eventOf};
 ghost use Rattle.at.specs.Walk.{readEither};
 ghost use Rattle.render.specs.Print.{Prints};
 ghost use Rattle.replay.specs.Hex.{bytesIn};
-ghost use Rattle.replay.specs.Reply.{readReply, packetReply, eventReply, againReply, writeReply, sizedReply, what as whatLine, ofBytes, isNote, shortReply};
+ghost use Rattle.replay.specs.Reply.{readReply, explainReply, packetReply, eventReply, againReply, writeReply, sizedReply, what as whatLine, ofBytes, isNote, shortReply};
 
 fn read(output: &mut [u8], place: usize, src: &[u8], reader: Reader) -> usize
     ensures { λ r. ⌜ Prints (now (output .entry)) place (readReply reader (now (src .entry))) r (now (output .exit)) ⌝ }
@@ -59,6 +60,34 @@ fn read(output: &mut [u8], place: usize, src: &[u8], reader: Reader) -> usize
             place,
             src,
             at::w36::try_parse_binary(src, 0),
+        ),
+        Reader::Explain(kind) => explain(output, place, src, kind),
+    }
+}
+
+fn explain(output: &mut [u8], place: usize, src: &[u8], kind: Explained) -> usize
+    ensures { λ r. ⌜ Prints (now (output .entry)) place (explainReply kind (now (src .entry))) r (now (output .exit)) ⌝ }
+{
+    match kind {
+        Explained::Frame => render::explained::frame(
+            output,
+            place,
+            src,
+            checks::frame::explain(src),
+        ),
+        Explained::W26 => render::explained::w26(output, place, src, checks::w26::explain(src, 0)),
+        Explained::W36 => render::explained::w36(output, place, src, checks::w36::explain(src, 0)),
+        Explained::Binary => render::explained::binary(
+            output,
+            place,
+            src,
+            checks::binary::explain(src, 0),
+        ),
+        Explained::Response => render::explained::response(
+            output,
+            place,
+            src,
+            checks::response::explain(src, 0),
         ),
     }
 }

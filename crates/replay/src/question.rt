@@ -7,7 +7,7 @@ use text::find::Found;
 use text::find::first_byte;
 ghost use mathlib.Core.Path.{_≡_};
 ghost use lib.ListN.{drop};
-ghost use Rattle.replay.specs.Question.{words, kindOf, numberIn, numberThen, withSize, withSizeAndChannel, withSizeAlone, asked};
+ghost use Rattle.replay.specs.Question.{words, kindOf, kinds, explainableBy, atSpace, numberIn, numberThen, withSize, withSizeAndChannel, withSizeAlone, withKind, asked};
 ghost use Rattle.replay.specs.Steps.{sizedOf, askedOf};
 
 pub(crate) enum Reader {
@@ -21,6 +21,16 @@ pub(crate) enum Reader {
     Why26,
     Why36,
     WhyBinary,
+    Explain(Explained),
+}
+
+// What the bytes are that are explained.
+pub(crate) enum Explained {
+    Frame,
+    W26,
+    W36,
+    Binary,
+    Response,
 }
 
 pub(crate) enum Writer {
@@ -53,6 +63,7 @@ enum Kind {
     Write(Writer),
     Data,
     Resend,
+    Explain,
     Unknown,
 }
 
@@ -92,7 +103,7 @@ fn kind_of(name: &[u8]) -> Kind
     writing_kind_of(name)
 }
 
-// The words after those that read.
+// The words that take more than bytes.
 fn writing_kind_of(name: &[u8]) -> Kind
     ensures { λ r. ⌜ r ≡ kindOf (drop 10 words) (now (name .entry)) ⌝ }
 {
@@ -111,7 +122,36 @@ fn writing_kind_of(name: &[u8]) -> Kind
     if same(name, b"again36") {
         return Kind::Write(Writer::Again36);
     }
+    if same(name, b"explain") {
+        return Kind::Explain;
+    }
     Kind::Unknown
+}
+
+enum Explainable {
+    Kind(Explained),
+    Nothing,
+}
+
+fn explained_kind(name: &[u8]) -> Explainable
+    ensures { λ r. ⌜ r ≡ explainableBy kinds (now (name .entry)) ⌝ }
+{
+    if same(name, b"frame") {
+        return Explainable::Kind(Explained::Frame);
+    }
+    if same(name, b"w26") {
+        return Explainable::Kind(Explained::W26);
+    }
+    if same(name, b"w36") {
+        return Explainable::Kind(Explained::W36);
+    }
+    if same(name, b"binary") {
+        return Explainable::Kind(Explained::Binary);
+    }
+    if same(name, b"response") {
+        return Explainable::Kind(Explained::Response);
+    }
+    Explainable::Nothing
 }
 
 // A number up to the next space, and the place after that space.
@@ -181,6 +221,21 @@ fn with_size_alone(line: &[u8], from: usize) -> Question
     Question::Resend { size }
 }
 
+fn with_kind(line: &[u8], from: usize) -> Question
+    ensures { λ r. ⌜ askedOf (now (line .entry)) r ≡ withKind (atSpace (drop from (now (line .entry)))) ⌝ }
+{
+    let Found::At(i) = first_byte(line, from, b' ') else {
+        return Question::Nothing;
+    };
+    let Explainable::Kind(kind) = explained_kind(part(line, from, i - from)) else {
+        return Question::Nothing;
+    };
+    Question::Read {
+        reader: Reader::Explain(kind),
+        from: i + 1,
+    }
+}
+
 pub(crate) fn question_of(line: &[u8]) -> Question
     ensures { λ r. ⌜ askedOf (now (line .entry)) r ≡ asked (now (line .entry)) ⌝ }
 {
@@ -193,6 +248,7 @@ pub(crate) fn question_of(line: &[u8]) -> Question
         Kind::Write(writer) => with_size(line, from, writer),
         Kind::Data => with_channel(line, from),
         Kind::Resend => with_size_alone(line, from),
+        Kind::Explain => with_kind(line, from),
         Kind::Unknown => Question::Nothing,
     }
 }

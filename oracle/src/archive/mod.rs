@@ -26,7 +26,7 @@ const SHOWN: u64 = 20;
 pub fn compare(count: u64, seed: u64) -> Result<bool, String> {
     let noticed = slips::noticed()?;
     let panicked = rust::panics();
-    let mut maker = Maker::new(seed);
+    let mut maker = Maker::for_crate(seed);
     let mut comparison = Comparison::default();
     let mut line = Vec::new();
     for number in 1..=count {

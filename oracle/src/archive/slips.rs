@@ -66,7 +66,7 @@ pub fn noticed() -> Result<bool, String> {
 
 /// The words with a difference, if the crate is asked in this way.
 fn differing(put: Put) -> Result<Vec<&'static str>, String> {
-    let mut maker = Maker::new(1);
+    let mut maker = Maker::for_crate(1);
     let mut comparison = Comparison::default();
     let mut line = Vec::new();
     for _ in 0..DRAWN {

@@ -108,6 +108,11 @@ fn push_payload(rng: &mut Rng, identifier: u16, flawed: bool, out: &mut Vec<u8>)
             let count = if flawed { 0 } else { 1 + rng.below(10) };
             push_bytes(rng, count, out);
         }
+        // Under two bytes, which no whole line has.
+        EVENT if flawed && rng.one_in(8) => {
+            let count = rng.below(2);
+            push_bytes(rng, count, out);
+        }
         EVENT => events::line(rng, &table::W26, out),
         RESPONSE => responses::text(rng, out),
         REQUEST if flawed => pieces::not_utf8(rng, out),

@@ -21,6 +21,9 @@ const LONG: usize = 400;
 /// One input in this many of those that a reader reads is asked about with the field and the reason.
 const WHY: usize = 6;
 
+/// And one in this many of those that can be explained is explained.
+const EXPLAIN: usize = 4;
+
 /// Up to two things in which a line or frame departs from a good one. Most lines have none, so that
 /// every event is read often, and the others show one refusal at a time.
 #[derive(Clone, Copy)]
@@ -46,11 +49,18 @@ impl Flaws {
 pub struct Maker {
     rng: Rng,
     bytes: Vec<u8>,
+    explains: bool,
 }
 
 impl Maker {
     pub fn new(seed: u64) -> Maker {
-        Maker { rng: Rng::new(seed), bytes: Vec::new() }
+        Maker { rng: Rng::new(seed), bytes: Vec::new(), explains: true }
+    }
+
+    /// The same inputs without a word that explains, which the crate does not have.
+    #[cfg(feature = "archive")]
+    pub fn for_crate(seed: u64) -> Maker {
+        Maker { explains: false, ..Maker::new(seed) }
     }
 
     /// Appends one record line.
@@ -60,6 +70,9 @@ impl Maker {
         let mut call = if rng.one_in(LONG) { long::make(rng, bytes) } else { make(rng, bytes) };
         if let (Call::Read(reader), true) = (call, rng.one_in(WHY)) {
             call = Call::Why(reader);
+        }
+        if let (Some(kind), true) = (call.explained(), rng.one_in(EXPLAIN) && self.explains) {
+            call = Call::Explain(kind);
         }
         record::push(out, call, bytes);
     }

@@ -47,9 +47,16 @@ returns-5 c = let near = c .before .before .before .before .before .before in
 returns-6 : tie.Need-returns-6
 unfolding asked
 returns-6 c = let near = c .before .before .before .before .before .before in
+    let i = near .i .given in
+    let z : i .0 .0 - 0 ≡ i .0 .0 = omega arith in
+    rw (space-at (near .before .before .before .before .args .line .now) 0 (i .0 .0) (sym (near .before .before .first-byte .ensures) ∙ i .1), z, ← c .before .before .before .before .part .ensures, ← c .before .before .before .kind-of .ensures, c .before .enum-told4 .given .1) (c .with-kind .ensures)
+
+returns-7 : tie.Need-returns-7
+unfolding asked
+returns-7 c = let near = c .before .before .before .before .before .before in
     let i = c .before .before .before .before .before .i .given in
     let z : i .0 .0 - 0 ≡ i .0 .0 = omega arith in
-    rw (space-at (near .before .before .before .args .line .now) 0 (i .0 .0) (sym (near .before .first-byte .ensures) ∙ i .1), z, ← c .before .before .before .part .ensures, ← c .before .before .kind-of .ensures, c .enum-told4 .given .1)
+    rw (space-at (near .before .before .before .args .line .now) 0 (i .0 .0) (sym (near .before .first-byte .ensures) ∙ i .1), z, ← c .before .before .before .part .ensures, ← c .before .before .kind-of .ensures, c .enum-told5 .given .1)
 
 pub question-of-spec : {M : Type 1} → statement M
 question-of-spec =
@@ -70,8 +77,11 @@ question-of-spec =
     (λ c. search needs)
     (λ c κs. search needs)
     (λ c. search needs)
+    (λ c κs. search needs)
+    (λ c. search needs)
     returns-2
     returns-3
     returns-4
     returns-5
-    returns-6)
+    returns-6
+    returns-7)

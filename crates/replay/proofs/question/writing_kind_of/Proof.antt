@@ -48,6 +48,13 @@ past5 : (c : tie.Else5) → Past 15 (name5 c)
 unfolding words
 past5 c = past4 (c .before .before .before) ∙ other-word _ _ _ _ (c .before .same5 .ensures) (c .if5 .left)
 
+abbrev name6 : tie.Else6 → List ℕ
+name6 c = name5 (c .before .before .before)
+
+past6 : (c : tie.Else6) → Past 16 (name6 c)
+unfolding words
+past6 c = past5 (c .before .before .before) ∙ other-word _ _ _ _ (c .before .same6 .ensures) (c .if6 .left)
+
 returns : tie.Need-returns
 unfolding words
 returns c = sym (this-word _ _ _ _ (c .before .same .ensures) (c .if1 .taken))
@@ -69,8 +76,12 @@ unfolding words
 returns-5 c = sym (past4 (c .before .before .before) ∙ this-word _ _ _ _ (c .before .same5 .ensures) (c .if5 .taken))
 
 returns-6 : tie.Need-returns-6
+unfolding words
+returns-6 c = sym (past5 (c .before .before .before) ∙ this-word _ _ _ _ (c .before .same6 .ensures) (c .if6 .taken))
+
+returns-7 : tie.Need-returns-7
 unfolding words kindOf
-returns-6 c = sym (past5 c)
+returns-7 c = sym (past6 c)
 
 pub writing-kind-of-spec : {M : Type 1} → statement M
 writing-kind-of-spec =
@@ -91,4 +102,7 @@ writing-kind-of-spec =
     (λ c. search needs)
     (λ c κs. search needs)
     returns-5
-    returns-6)
+    (λ c. search needs)
+    (λ c κs. search needs)
+    returns-6
+    returns-7)
