@@ -24,6 +24,14 @@ def title_of(kind, r, verdict):
 NOT_BINARY = "A binary event starts with CR LF +UESODB: or CR LF +UESODBF:, and this input does not."
 
 
+# the program reads no more than 4,100 bytes
+CUT = "Only the first 4,100 bytes are read; what follows them, if anything, is not explained."
+
+
+def cut_note(r):
+    return [CUT] if len(r.data) >= 4100 else []
+
+
 def readable(b):
     return chr(b) if 0x20 <= b <= 0x7E else "."
 
@@ -57,7 +65,8 @@ def note_of(r):
 
 
 def text_page(kind, r, verdict):
-    lines = [title_of(kind, r, verdict), "", "byte   0  1  2  3  4  5  6  7  8  9 10 11 12 13 14 15"]
+    lines = [title_of(kind, r, verdict), ""] + [line for note in cut_note(r) for line in (note, "")]
+    lines += ["byte   0  1  2  3  4  5  6  7  8  9 10 11 12 13 14 15"]
     owners = owners_of(r, verdict)
     shown = len(r.data) + (verdict == "refused" and r.broken[2] == len(r.data))
     for start in range(0, shown, 16):
@@ -193,7 +202,7 @@ def faults_in_rest(page, r, verdict, same):
         expected = ["It has no fields."]
     if verdict == "accepted" and note_of(r):
         expected.append(note_of(r))
-    same("sentences", said, expected)
+    same("sentences", said, cut_note(r) + expected)
     same("table", rows[1:], table)
     same("numbers of the fields", chips, numbers)
 

@@ -116,7 +116,7 @@ fn request() -> Asked {
     }
 }
 
-// The page of the longest input has less than 524,288 bytes.
+// A byte of the input takes at most 90 of the page (html.rt), so there is room for 4,100 of them and all else.
 fn explain(kind: Kind, html: bool) {
     let mut input = [0u8; 4100];
     let got = read_full(&mut input);

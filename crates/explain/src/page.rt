@@ -223,6 +223,19 @@ fn number_bytes(owners: &mut [u8], s: &[u8], said: Verdict) {
     }
 }
 
+// The program reads no more bytes (main.rt), so a longer input may be refused for bytes that it does have.
+fn cut_note(out: &mut [u8], pen: Pen, n: usize) -> Pen {
+    if n < 4100 {
+        return pen;
+    }
+    let p = paragraph(
+        out,
+        pen,
+        b"Only the first 4,100 bytes are read; what follows them, if anything, is not explained.",
+    );
+    either(out, p, b"\n", b"")
+}
+
 fn bytes(out: &mut [u8], pen: Pen, s: &[u8], owners: &[u8]) -> Pen {
     let p = either(out, pen, b"", b"<div class=\"dump\">\n");
     let q = dump(out, p, s, owners);
@@ -236,8 +249,9 @@ pub(crate) fn page(out: &mut [u8], s: &[u8], kind: Kind, html: bool) -> usize {
     let mut owners = [0u8; 4112];
     number_bytes(&mut owners, s, said);
     let p = top(out, Pen { at: 0, html }, s.len(), x, said);
-    let q = bytes(out, p, s, &owners);
-    let r = rest(out, q, s, x, said);
-    let t = either(out, r, b"", b"</body>\n</html>\n");
-    t.at
+    let q = cut_note(out, p, s.len());
+    let r = bytes(out, q, s, &owners);
+    let t = rest(out, r, s, x, said);
+    let u = either(out, t, b"", b"</body>\n</html>\n");
+    u.at
 }

@@ -1,4 +1,4 @@
-// What is written on the page: texts, numbers, bytes. A byte for which there is no room is left out; the buffer has room for every page.
+// What is written on the page: texts, numbers, bytes. A byte for which there is no room is left out; there is room for every page (main.rt).
 use crate::list::item;
 use text::bytes::part;
 
