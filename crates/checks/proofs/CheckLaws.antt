@@ -2,7 +2,7 @@
 use Prim.Native.Nat.{ℕ}
 use mathlib.Core.Path.{_≡_, refl, ap}
 use mathlib.Core.List.{List, [], _∷_, _++_}
-use mathlib.Core.Bool.{Bool, true, false, cond, not, false≢true}
+use mathlib.Core.Bool.{Bool, true, false, not, false≢true}
 use native.Mathlib.Omega.{arith}
 use lib.Dec.{leb, ltb}
 use borrow.Author.Tests.{leb-true, leb-false, lt-ltb, le-ltb}
@@ -49,11 +49,6 @@ named-first checks c n b r = rw (r .order) (go (r .earlier) (r .held))
     go [] h = refl
     go ((d needs true else m at a) ∷ earlier) h = go earlier h
     go ((d needs false else m at a) ∷ earlier) h = absurd (false≢true h)
-
--- a list, check by check
-pub found-step : (c : CheckName) (t : Bool) (n : Refusal) (b : ℕ) (checks : List Check) → firstBroken ((c needs t else n at b) ∷ checks) ≡ cond t (firstBroken checks) (broken c n b)
-unfolding firstBroken
-found-step c t n b checks = refl
 
 pub found-none : firstBroken [] ≡ allHold
 unfolding firstBroken

@@ -5,17 +5,23 @@ use Rattle.text.specs.Bytes.{bytes, hex, part, same}
 use Rattle.text.specs.Decimal.{digitsOf, decimal}
 use Rattle.at.specs.Refusal.{no, missing, invalid, good, refused}
 use Rattle.at.specs.declared.FieldError.the-variants.{NotListed}
-use Rattle.at.specs.Event.{num, place, event}
+use Rattle.at.specs.Event.{Value, num, place, event}
 use Rattle.at.specs.W26.{UUWLD, UUETHLU}
 use Rattle.at.specs.W36.{UESOC, UEWAPSA}
 use Rattle.at.specs.Walk.{eventThen, thenEnd, thenRefused}
 use Rattle.edm.specs.Packet.{dataPacket, connectEvent, atPacket}
+use Rattle.checks.specs.Part.{_from_for_}
+use Rattle.checks.specs.Explained.{accepted, refusedBy, none}
+use Rattle.checks.specs.declared.CheckName.the-variants.{FieldThere}
+use Rattle.checks.specs.declared.part.PartName.the-variants.{Name, Field}
 use Rattle.render.specs.Words.{pairsOf, nameIn, reasons, numberWord, valuesLine}
 use Rattle.render.specs.Why.{whyLine, whyFrameLine}
 use Rattle.render.specs.Refusal.{refusals, refusedLine, frameRefusedLine}
 use Rattle.render.specs.Event.{cases26, cases36, caseOf, eventLine, answerLine}
 use Rattle.render.specs.Frame.{frameLine}
 use Rattle.render.specs.Walk.{walkLine}
+use Rattle.render.specs.Label.{checkNames, partNames}
+use Rattle.render.specs.Explained.{partsLine, explainedLine, binaryLine}
 
 pub data-event : frameLine (hex "AA 00 04 00 36 03 41 55") (good (dataPacket (num 3 ∷ place 6 1 ∷ []))) ≡ bytes "DataEvent 3 41"
 unfolding valuesLine numberWord decimal digitsOf pairsOf part
@@ -69,3 +75,15 @@ two-connected = refl
 pub one-connected : walkLine [] (eventThen (event UESOC (num 1 ∷ [])) 12 (thenRefused (no 12) 12)) ≡ bytes "SocketConnected 1 @12 ; refused FramingDecodeFailed @12"
 unfolding walkLine valuesLine numberWord decimal digitsOf cases36 caseOf same refusedLine nameIn refusals
 one-connected = refl
+
+-- explanations: each field with its place and then its length, or the refusal, the byte and then the check
+pub fields-placed : explainedLine (accepted (num 0) ((Name from 2 for 6) ∷ (Field 1 from 9 for 3) ∷ [])) ≡ bytes "accepted Name@2+6 Field1@9+3"
+unfolding partsLine nameIn partNames decimal digitsOf
+fields-placed = refl
+
+pub check-named : explainedLine {A = Value} (refusedBy (FieldThere 3) (missing 3) 12) ≡ bytes "refused 14 TypeDecodeParameterMissing @12 FieldThere3"
+unfolding nameIn refusals checkNames decimal digitsOf
+check-named = refl
+
+pub no-binary : binaryLine none ≡ bytes "notbinary"
+no-binary = refl

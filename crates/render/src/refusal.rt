@@ -2,6 +2,8 @@
 use crate::name::name;
 use crate::word::word;
 use at::AtPacketError;
+use checks::refusal::at_number;
+use checks::refusal::edm_number;
 use edm::EdmPacketError;
 use writer::EventWriteError;
 ghost use mathlib.Core.Path.{_≡_};
@@ -43,43 +45,12 @@ fn refused(buf: &mut [u8], at: usize, n: usize) -> usize
     refusal_name(buf, next, n)
 }
 
-fn at_number(e: AtPacketError) -> usize
-    ensures { λ r. ⌜ r ≡ events.refusalNo e ⌝ }
-{
-    match e {
-        AtPacketError::Utf8DecodeFailed => 11,
-        AtPacketError::FramingDecodeFailed => 12,
-        AtPacketError::TypeDecodeUnsupported => 13,
-        AtPacketError::TypeDecodeParameterMissing { field: _ } => 14,
-        AtPacketError::TypeDecodeParameterDataTypeInvalid { field: _, why: _ } => 15,
-        AtPacketError::EventUnknown => 16,
-    }
-}
-
 fn write_number(e: EventWriteError) -> usize
     ensures { λ r. ⌜ r ≡ writing.refusalNo e ⌝ }
 {
     match e {
         EventWriteError::FieldNotWritable => 17,
         EventWriteError::EventBufferTooSmall => 18,
-    }
-}
-
-fn frame_number(e: EdmPacketError) -> usize
-    ensures { λ r. ⌜ r ≡ frames.refusalNo e ⌝ }
-{
-    match e {
-        EdmPacketError::PacketDecodeFramingInvalid => 1,
-        EdmPacketError::PacketDecodeTargetMemorySizeInvalid => 2,
-        EdmPacketError::PacketTypeDecodeLengthMismatch => 3,
-        EdmPacketError::PayloadTypeUnknown => 4,
-        EdmPacketError::ConnectEventUnsupported => 5,
-        EdmPacketError::ConnectEventDecodeError => 6,
-        EdmPacketError::DisconnectEventDecodeError => 7,
-        EdmPacketError::AtRequestEventDecodeError => 8,
-        EdmPacketError::PacketEncodeTypeUnknown => 9,
-        EdmPacketError::PacketEncodePayloadSizeInvalid => 10,
-        EdmPacketError::AtPacketError(inner) => at_number(inner),
     }
 }
 
@@ -98,14 +69,14 @@ fn frame_refused(buf: &mut [u8], at: usize, n: usize) -> usize
 pub(crate) fn of_frame(buf: &mut [u8], at: usize, e: EdmPacketError) -> usize
     ensures { λ r. ⌜ Prints (now (buf .entry)) at (frameRefusedLine (frames.refusalNo e)) r (now (buf .exit)) ⌝ }
 {
-    frame_refused(buf, at, frame_number(e))
+    frame_refused(buf, at, edm_number(e) as usize)
 }
 
 // The refusal of an AT reader that was called by itself.
 pub fn of_at(buf: &mut [u8], at: usize, e: AtPacketError) -> usize
     ensures { λ r. ⌜ Prints (now (buf .entry)) at (refusedLine (events.refusalNo e)) r (now (buf .exit)) ⌝ }
 {
-    refused(buf, at, at_number(e))
+    refused(buf, at, at_number(e) as usize)
 }
 
 pub(crate) fn of_event_write(buf: &mut [u8], at: usize, e: EventWriteError) -> usize

@@ -7,4 +7,4 @@ returns : tie.Need-returns
 returns c = rw (c .before .before .before .at-number .ensures) at (c .before .before .refused .ensures)
 
 pub of-at-spec : {M : Type 1} → statement M
-of-at-spec = tie.close (tie.spec (λ c κs. search needs) (λ c κs. search needs) (λ c. search needs) returns)
+of-at-spec = tie.close (tie.spec (λ c κs. search needs) (λ c. search needs) (λ c κs. search needs) (λ c. search needs) returns)
