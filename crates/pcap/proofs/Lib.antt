@@ -1,0 +1,11 @@
+pub mod NumberLaws
+pub mod ReadLaws
+pub mod WriteLaws
+pub mod WrittenRead
+pub mod ReadWritten
+pub mod RunLaws
+pub mod Window
+pub mod OneOutcome
+pub mod Programs
+pub mod Examples
+pub mod WrongPrograms
