@@ -10,8 +10,10 @@ use Rattle.edm.specs.Payload.{readDataEvent}
 use Rattle.edm.specs.Frame.{readFrame}
 use Rattle.render.specs.Words.{pairsOf, numberWord, valuesLine}
 use Rattle.replay.specs.declared.question.Writer.the-variants as writer
-use Rattle.replay.specs.Hex.{spells, noHex, pairs, bytesIn}
-use Rattle.replay.specs.Question.{writes, resends, nothing, words, kindOf, atSpace, numberIn, numberThen, asked}
+use Rattle.lines.specs.Hex.{spells, noHex, pairs, bytesIn}
+use Rattle.replay.specs.Question.{writes, resends, nothing, words, kindOf, numberThen, asked}
+use Rattle.lines.specs.Cut.{cutAt}
+use Rattle.lines.specs.Number.{numberIn}
 use Rattle.replay.specs.Reply.{isNote, withoutCr, shortReply, replyLine}
 
 -- digits of either case, with or without spaces between bytes
@@ -25,10 +27,10 @@ unfolding bytesIn same pairs
 no-bytes = (refl, refl, refl)
 
 pub questions : (asked (bytes "data 16 255 41") ≡ writes (writer.Data 255) 16 (bytes "41")) × (asked (bytes "resend 6") ≡ resends 6) × (asked (bytes "data 16 256 41") ≡ nothing)
-unfolding asked atSpace firstOf startsWith words kindOf same numberThen numberIn digitsFrom
+unfolding asked cutAt firstOf startsWith words kindOf same numberThen numberIn digitsFrom
 questions = (refl, refl, refl)
 
 -- a CR at the end, a line that is no question, a heading
 pub answers : (replyLine 1 (bytes "frame AA 00 04 00 36 03 41 55\r") ≡ bytes "DataEvent 3 41") × (replyLine 7 (bytes "frame aa5") ≡ bytes "what? 7") × (replyLine 8 (bytes "# frame") ≡ bytes "# frame")
-unfolding replyLine withoutCr shortReply isNote every asked atSpace firstOf startsWith words kindOf same bytesIn pairs readFrame identifiers carried readDataEvent valuesLine numberWord decimal digitsOf pairsOf part
+unfolding replyLine withoutCr shortReply isNote every asked cutAt firstOf startsWith words kindOf same bytesIn pairs readFrame identifiers carried readDataEvent valuesLine numberWord decimal digitsOf pairsOf part
 answers = (refl, refl, refl)

@@ -1,6 +1,5 @@
 pub mod Examples
-pub mod HexLaws
-pub mod HexRoom
+pub mod AskedRoom
 pub mod QuestionLaws
 pub mod ReplyLaws
 pub mod ReplyRoom

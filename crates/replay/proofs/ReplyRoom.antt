@@ -37,10 +37,11 @@ use Rattle.replay.specs.declared.question.Explained.{Explained}
 use Rattle.replay.specs.declared.question.Explained.the-variants as explained
 use Rattle.replay.specs.declared.question.Writer.{Writer}
 use Rattle.replay.specs.declared.question.Writer.the-variants as writer
-use Rattle.replay.specs.Hex.{Spelt, spells, noHex, bytesIn}
+use Rattle.lines.specs.Hex.{Spelt, spells, noHex, bytesIn}
 use Rattle.replay.specs.Question.{Asked, reads, writes, resends, nothing, asked}
 use Rattle.replay.specs.Reply.{explainReply, readReply, writtenLine, wholeOf, packetReply, againReply, writeReply, sizedReply, tooLong, what, ofBytes, replyTo, isNote, withoutCr, shortReply, replyLine, lineReply}
-use Rattle.replay.proofs.HexRoom.{bytesOf, bytes-spelt, hexAsked, asked-shorter}
+use Rattle.lines.proofs.DecodedLaws.{bytesOf, bytes-spelt}
+use Rattle.replay.proofs.AskedRoom.{hexAsked, asked-shorter}
 use Rattle.replay.proofs.ReplyLaws.{without-shorter}
 
 -- bytes that are explained

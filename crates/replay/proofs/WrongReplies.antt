@@ -30,8 +30,9 @@ use Rattle.render.specs.Label.{checkNames}
 use Rattle.checks.specs.Check.{firstBroken}
 use Rattle.checks.specs.Number.{notEmpty, onlyAllowed, valueFrom, smallEnough}
 use Rattle.checks.specs.Line.{fieldChecks, kindsFor, textChecks, lineChecks}
-use Rattle.replay.specs.Hex.{pairs, bytesIn}
-use Rattle.replay.specs.Question.{words, kindOf, kinds, explainableBy, atSpace, asked}
+use Rattle.lines.specs.Hex.{pairs, bytesIn}
+use Rattle.replay.specs.Question.{words, kindOf, kinds, explainableBy, asked}
+use Rattle.lines.specs.Cut.{cutAt}
 use Rattle.replay.specs.Reply.{isNote, withoutCr, shortReply, replyLine, lineReply, answerLine}
 use Rattle.replay.proofs.session.reply as reply
 
@@ -57,7 +58,7 @@ abbrev pub bothSockets : List ℕ
 bothSockets = bytes "SocketConnected 1 @12 ; SocketConnected 2 @24 ; end\n"
 
 both-sockets : (n : ℕ) → answerLine false n twoConnects ≡ bothSockets
-unfolding lineReply replyLine withoutCr shortReply isNote every asked atSpace firstOf words kindOf bytesIn pairs same startsWith fieldsFrom digitsFrom under digits signed number table37 seqLen passed validUpTo utf8 insideCharacter readField takeKind takeKinds readRow before endsIn ended framed rowsNamed fieldsAfter byType readText readLine tryRows readEither stepAt walkFrom walkAt table binaryTable walkLine valuesLine numberWord decimal digitsOf cases36 caseOf
+unfolding lineReply replyLine withoutCr shortReply isNote every asked cutAt firstOf words kindOf bytesIn pairs same startsWith fieldsFrom digitsFrom under digits signed number table37 seqLen passed validUpTo utf8 insideCharacter readField takeKind takeKinds readRow before endsIn ended framed rowsNamed fieldsAfter byType readText readLine tryRows readEither stepAt walkFrom walkAt table binaryTable walkLine valuesLine numberWord decimal digitsOf cases36 caseOf
 both-sockets n = refl
 
 -- both events are written
@@ -72,7 +73,7 @@ abbrev pub firstHasByte : List ℕ
 firstHasByte = bytes "refused TypeDecodeParameterDataTypeInvalid field 1 byte\n"
 
 first-has-byte : (n : ℕ) → answerLine false n wrongSocket ≡ firstHasByte
-unfolding lineReply replyLine withoutCr shortReply isNote every asked atSpace firstOf words kindOf bytesIn pairs same startsWith fieldsFrom digitsFrom under digits signed number table37 seqLen passed validUpTo utf8 insideCharacter readField takeKind takeKinds readRow before endsIn ended framed rowsNamed fieldsAfter byType readText readLine table refusals nameIn refusedLine decimal digitsOf
+unfolding lineReply replyLine withoutCr shortReply isNote every asked cutAt firstOf words kindOf bytesIn pairs same startsWith fieldsFrom digitsFrom under digits signed number table37 seqLen passed validUpTo utf8 insideCharacter readField takeKind takeKinds readRow before endsIn ended framed rowsNamed fieldsAfter byType readText readLine table refusals nameIn refusedLine decimal digitsOf
 first-has-byte n = refl
 
 -- the field and the reason are written
@@ -87,7 +88,7 @@ abbrev pub checkShown : List ℕ
 checkShown = bytes "refused 15 TypeDecodeParameterDataTypeInvalid @9 FieldByte1\n"
 
 check-shown : (n : ℕ) → answerLine false n explainedSocket ≡ checkShown
-unfolding lineReply replyLine withoutCr shortReply isNote every asked atSpace firstOf words kindOf bytesIn pairs same startsWith fieldsFrom digitsFrom under digits signed number table37 seqLen passed validUpTo utf8 insideCharacter readField takeKind takeKinds readRow before endsIn ended framed rowsNamed fieldsAfter byType readText readLine table refusals nameIn refusedLine decimal digitsOf kinds explainableBy firstBroken notEmpty onlyAllowed valueFrom smallEnough fieldChecks kindsFor textChecks lineChecks checkNames
+unfolding lineReply replyLine withoutCr shortReply isNote every asked cutAt firstOf words kindOf bytesIn pairs same startsWith fieldsFrom digitsFrom under digits signed number table37 seqLen passed validUpTo utf8 insideCharacter readField takeKind takeKinds readRow before endsIn ended framed rowsNamed fieldsAfter byType readText readLine table refusals nameIn refusedLine decimal digitsOf kinds explainableBy firstBroken notEmpty onlyAllowed valueFrom smallEnough fieldChecks kindsFor textChecks lineChecks checkNames
 check-shown n = refl
 
 -- the check and its byte are written

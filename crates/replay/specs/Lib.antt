@@ -1,4 +1,3 @@
-pub mod Hex
 pub mod Question
 pub mod Reply
 pub mod Buffers

@@ -5,15 +5,14 @@
 --   data                                        SIZE CHANNEL HEX
 --   resend                                      SIZE
 --   explain                                     KIND HEX, with frame, w26, w36, binary or response for KIND
-use Prim.Native.Nat.{ℕ, _+_, min}
+use Prim.Native.Nat.{ℕ}
 use Prim.Native.String.{String}
 use mathlib.Core.List.{List, [], _∷_}
 use mathlib.Core.Bool.{cond}
-use lib.Dec.{leb, ltb}
-use lib.ListN.{length, take, drop}
+use lib.Dec.{leb}
 use Rattle.text.specs.Bytes.{bytes, same}
-use Rattle.text.specs.Find.{firstOf}
-use Rattle.text.specs.Number.{Num, some, none, digitsFrom}
+use Rattle.lines.specs.Cut.{Cut, cut, whole, cutAt}
+use Rattle.lines.specs.Number.{Amount, amount, noAmount, numberIn}
 use Rattle.replay.specs.declared.question.Reader.{Reader}
 use Rattle.replay.specs.declared.question.Reader.the-variants as reader
 use Rattle.replay.specs.declared.question.Writer.{Writer}
@@ -72,26 +71,8 @@ explainableBy [] name = explainable.Nothing
 explainableBy ((kind names x) ∷ rest) name = cond (same name (bytes kind)) (explainable.Kind x) (explainableBy rest name)
 
 -- a text cut at its first space, or without one
-pub data Cut : Type 0 where
-  cut : List ℕ → List ℕ → Cut
-  whole : Cut
-
-unfoldable pub atSpace : List ℕ → Cut
-atSpace s = cond (ltb (firstOf (bytes " ") s) (length s)) (cut (take (firstOf (bytes " ") s) s) (drop (firstOf (bytes " ") s + 1) s)) whole
-
--- digits alone, or something else
-pub data Amount : Type 0 where
-  amount : ℕ → Amount
-  noAmount : Amount
-
--- what is over a million counts as a million, which is more than any use of it allows
-abbrev pub capped : Num → Amount
-capped (some n) = amount (min n 1000000)
-capped (none why) = noAmount
-
-unfoldable pub numberIn : List ℕ → Amount
-numberIn [] = noAmount
-numberIn (b ∷ s) = capped (digitsFrom 0 (b ∷ s))
+abbrev pub atSpace : List ℕ → Cut
+atSpace s = cutAt (bytes " ") s
 
 -- a number up to the first space, and what follows that
 pub data Sized : Type 0 where

@@ -40,7 +40,7 @@ use Rattle.replay.specs.declared.question.Explained.{Explained}
 use Rattle.replay.specs.declared.question.Explained.the-variants as explained
 use Rattle.replay.specs.declared.question.Writer.{Writer}
 use Rattle.replay.specs.declared.question.Writer.the-variants as writer
-use Rattle.replay.specs.Hex.{Spelt, spells, noHex, bytesIn}
+use Rattle.lines.specs.Hex.{Spelt, spells, noHex, bytesIn}
 use Rattle.replay.specs.Question.{Asked, reads, writes, resends, nothing, asked}
 
 -- the fields of an event that was read from the line s

@@ -1,6 +1,4 @@
 // The answer to a line.
-use crate::decode::Decoded;
-use crate::decode::hex;
 use crate::question::Explained;
 use crate::question::Question;
 use crate::question::Reader;
@@ -13,6 +11,8 @@ use at::w36::BinaryAnswer;
 use at::w36::EventAnswer as Event36;
 use edm::Channel;
 use edm::EdmPacket;
+use lines::hex::Decoded;
+use lines::hex::decode;
 use render::refusal::of_at;
 use render::word::number;
 use render::word::word;
@@ -29,7 +29,7 @@ ghost use Rattle.at.specs.W26.{w26};
 ghost use Rattle.at.specs.W36.{w36, eventOf};
 ghost use Rattle.at.specs.Walk.{readEither};
 ghost use Rattle.render.specs.Print.{Prints};
-ghost use Rattle.replay.specs.Hex.{bytesIn};
+ghost use Rattle.lines.specs.Hex.{bytesIn};
 ghost use Rattle.replay.specs.Reply.{readReply, explainReply, packetReply, eventReply, againReply, writeReply, sizedReply, what as whatLine, ofBytes, isNote, shortReply};
 
 fn read(output: &mut [u8], place: usize, src: &[u8], reader: Reader) -> usize
@@ -202,9 +202,11 @@ fn read_hex(
     requires { ⌜ length (now s) ≤ 2 * length (now bytes) ⌝ }
     ensures { λ r. ⌜ Prints (now (output .entry)) place (ofBytes n (bytesIn (now (s .entry))) (readReply reader)) r (now (output .exit)) ⌝ }
 {
-    match hex(bytes, s) {
+    match decode(bytes, s) {
         Decoded::Bytes(k) => read(output, place, part(bytes, 0, k), reader),
-        Decoded::Refused => what(output, place, n),
+        Decoded::NoHex => what(output, place, n),
+        // The buffer holds what the longest line spells.
+        Decoded::NoRoom => what(output, place, n),
     }
 }
 
@@ -221,9 +223,11 @@ fn write_hex(
     requires { ⌜ length (now s) ≤ 2 * length (now bytes) ⌝ }
     ensures { λ r. ⌜ Prints (now (output .entry)) place (ofBytes n (bytesIn (now (s .entry))) (sizedReply (length (now (target .entry))) w size)) r (now (output .exit)) ⌝ }
 {
-    match hex(bytes, s) {
+    match decode(bytes, s) {
         Decoded::Bytes(k) => write_within(output, place, target, size, part(bytes, 0, k), w),
-        Decoded::Refused => what(output, place, n),
+        Decoded::NoHex => what(output, place, n),
+        // The buffer holds what the longest line spells.
+        Decoded::NoRoom => what(output, place, n),
     }
 }
 

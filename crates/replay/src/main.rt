@@ -1,8 +1,6 @@
 // Reads questions from standard input, a line each, and prints an answer for each: what a frame or a line of a radio means, or what is
 // written for a command or an event.
 mod answer;
-mod decode;
-mod input;
 mod question;
 mod session;
 mod walk;

@@ -1,13 +1,14 @@
 // What a line asks.
-use crate::decode::Number;
-use crate::decode::decimal;
+use lines::number::Number;
+use lines::number::decimal;
 use text::bytes::part;
 use text::bytes::same;
 use text::find::Found;
 use text::find::first_byte;
 ghost use mathlib.Core.Path.{_≡_};
 ghost use lib.ListN.{drop};
-ghost use Rattle.replay.specs.Question.{words, kindOf, kinds, explainableBy, atSpace, numberIn, numberThen, withSize, withSizeAndChannel, withSizeAlone, withKind, asked};
+ghost use Rattle.lines.specs.Number.{numberIn};
+ghost use Rattle.replay.specs.Question.{words, kindOf, kinds, explainableBy, atSpace, numberThen, withSize, withSizeAndChannel, withSizeAlone, withKind, asked};
 ghost use Rattle.replay.specs.Steps.{sizedOf, askedOf};
 
 pub(crate) enum Reader {

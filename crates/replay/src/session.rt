@@ -1,9 +1,9 @@
 // The lines of the input, answered one after the other.
 use crate::answer::answer;
-use crate::input::line_end;
-use crate::input::move_to_front;
-use crate::input::read_after;
 use libc::STDOUT_FILENO;
+use lines::input::line_end;
+use lines::input::move_to_front;
+use lines::input::read_after;
 use render::word::word;
 use text::bytes::part;
 use text::bytes::same;

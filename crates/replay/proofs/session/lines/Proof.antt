@@ -34,7 +34,7 @@ loop-again c = let near = c .before .before .before .before .before .before in
     let far = near .before .before .before .before .before .before in
     let l = far .before .before .before .before .loop .inv in
     let r = near .before .before .reply .kept in
-    (c .line-end2 .ensures, r .0 ∙ l .1, r .1 .1 .1 .1 .1 .0 ∙ l .2, r .1 .1 .1 .1 .1 .1 .0 ∙ l .3)
+    (c .line-end2 .ensures .1, r .0 ∙ l .1, r .1 .1 .1 .1 .1 .0 ∙ l .2, r .1 .1 .1 .1 .1 .1 .0 ∙ l .3)
 
 pub lines-spec : {M : Type 1} → statement M
 lines-spec =

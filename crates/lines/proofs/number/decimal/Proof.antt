@@ -4,13 +4,13 @@ use mathlib.Core.Path.{_≡_, sym, _∙_}
 use native.Mathlib.Omega.{arith}
 use lib.ListN.{length, drop}
 use Rattle.text.specs.Number.{digitsFrom}
-use Rattle.replay.specs.Question.{capped, numberIn}
-use Rattle.replay.proofs.QuestionLaws.{capped-start, none-empty, capped-end, capped-low, capped-high, capped-more}
-use Rattle.replay.proofs.decode.decimal.Statement.{statement}
-use Rattle.replay.proofs.decode.decimal.Tie as tie
+use Rattle.lines.specs.Number.{capped, numberIn}
+use Rattle.lines.proofs.NumberLaws.{capped-start, none-empty, capped-end, capped-low, capped-high, capped-more}
+use Rattle.lines.proofs.number.decimal.Statement.{statement}
+use Rattle.lines.proofs.number.decimal.Tie as tie
 
 abbrev Inv-loop : tie.InvT-loop
-Inv-loop s n₀ i₀ n i = (i ≤ length s) × (n ≤ 1000000) × (numberIn s ≡ capped (digitsFrom n (drop i s)))
+Inv-loop s n₀ i₀ n i = (i ≤ length s) × (n ≤ 4294967296) × (numberIn s ≡ capped (digitsFrom n (drop i s)))
 
 abbrev μ-loop : tie.MeasureT-loop
 μ-loop s n₀ i₀ n i = length s - i

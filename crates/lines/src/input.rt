@@ -2,18 +2,21 @@
 use libc::STDIN_FILENO;
 use text::find::Found;
 use text::find::first_byte;
-ghost use Prim.Native.Nat.{_≤_, _<_};
+ghost use Prim.Native.Nat.{_-_, _≤_, _<_};
+ghost use mathlib.Core.Path.{_≡_};
 ghost use lib.ListN.{length};
+ghost use Rattle.text.specs.Bytes.{part};
+ghost use Rattle.lines.specs.Input.{lineEnd, withFront, ReadAfter};
 
 // How many bytes there are, and whether the system failed to read more.
-pub(crate) struct Got {
+pub struct Got {
     pub count: usize,
     pub failed: bool,
 }
 
 // Reads once, after the bytes that are kept.
-pub(crate) fn read_after(input: &mut [u8], kept: usize) -> Got
-    ensures { λ r. ⌜ r .count ≤ length (now (input .exit)) ⌝ }
+pub fn read_after(input: &mut [u8], kept: usize) -> Got
+    ensures { λ r. ⌜ ReadAfter (now (input .entry)) kept (r .count) (now (input .exit)) ⌝ }
 {
     if kept <= input.len() {
         let room = &mut input[kept..];
@@ -31,8 +34,8 @@ pub(crate) fn read_after(input: &mut [u8], kept: usize) -> Got
 }
 
 // The place of the first line end at `from` or after it, or the length of `s`.
-pub(crate) fn line_end(s: &[u8], from: usize) -> usize
-    ensures { λ r. ⌜ (r < length (now (s .entry)) → from ≤ r) ⌝ }
+pub fn line_end(s: &[u8], from: usize) -> usize
+    ensures { λ r. ⌜ (r ≡ lineEnd (now (s .entry)) from) × (r < length (now (s .entry)) → from ≤ r) ⌝ }
 {
     match first_byte(s, from, b'\n') {
         Found::At(i) => i,
@@ -41,15 +44,15 @@ pub(crate) fn line_end(s: &[u8], from: usize) -> usize
 }
 
 // Moves the bytes from `start` up to `end` to the front, and answers how many they are.
-pub(crate) fn move_to_front(input: &mut [u8], start: usize, end: usize) -> usize
-    requires { ⌜ end ≤ length (now input) ⌝ }
+pub fn move_to_front(input: &mut [u8], start: usize, end: usize) -> usize
+    ensures { λ r. ⌜ (r ≡ length (part (now (input .entry)) start (end - start))) × (now (input .exit) ≡ withFront (now (input .entry)) (part (now (input .entry)) start (end - start))) ⌝ }
 {
-    if start == 0 {
-        return end;
-    }
     let mut i = 0;
     let mut from = start;
-    while from < end {
+    while from < input.len() {
+        if end <= from {
+            return i;
+        }
         input[i] = input[from];
         i += 1;
         from += 1;

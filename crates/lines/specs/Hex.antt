@@ -4,7 +4,10 @@ use Prim.Native.Char.{code}
 use mathlib.Core.List.{List, [], _∷_, _++_}
 use mathlib.Core.Bool.{Bool, cond, _&&_}
 use lib.Dec.{eqb, leb, ltb}
+use lib.ListN.{length, drop}
 use Rattle.text.specs.Bytes.{bytes, same}
+use Rattle.lines.specs.declared.hex.Decoded.{Decoded}
+use Rattle.lines.specs.declared.hex.Decoded.the-variants.{Bytes, NoHex, NoRoom}
 
 -- the value of a digit, or 16 for any other byte
 abbrev pub digitOf : ℕ → ℕ
@@ -38,3 +41,12 @@ someBytes noHex = noHex
 
 unfoldable pub bytesIn : List ℕ → Spelt
 bytesIn s = cond (same s (bytes "-")) (spells []) (someBytes (pairs s))
+
+-- the answer of a call that puts these bytes into a buffer with so much room, and the buffer afterwards
+abbrev pub answer : ℕ → Spelt → Decoded
+answer room (spells x) = cond (leb (length x) room) (Bytes (length x)) NoRoom
+answer room noHex = NoHex
+
+abbrev pub after : List ℕ → Spelt → List ℕ
+after buf (spells x) = cond (leb (length x) (length buf)) (x ++ drop (length x) buf) buf
+after buf noHex = buf

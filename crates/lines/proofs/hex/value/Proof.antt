@@ -1,10 +1,10 @@
 -- `value` meets its contract.
 use mathlib.Core.Path.{sym}
 use native.Mathlib.Omega.{arith}
-use Rattle.replay.proofs.HexLaws.{digit-decimal, digit-upper, digit-lower, digit-none}
+use Rattle.lines.proofs.HexLaws.{digit-decimal, digit-upper, digit-lower, digit-none}
 use borrow.Author.Needs.{needs}
-use Rattle.replay.proofs.decode.value.Statement.{statement}
-use Rattle.replay.proofs.decode.value.Tie as tie
+use Rattle.lines.proofs.hex.value.Statement.{statement}
+use Rattle.lines.proofs.hex.value.Tie as tie
 
 returns : tie.Need-returns
 returns c = sym (digit-decimal (c .before .before .args .b) (omega arith) (omega arith))

@@ -1,0 +1,5 @@
+pub mod Hex
+pub mod Number
+pub mod Cut
+pub mod Input
+pub mod Steps

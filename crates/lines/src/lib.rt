@@ -1,0 +1,4 @@
+// What lines of text say, for programs that read them: bytes in hex, numbers, and standard input in pieces.
+pub mod hex;
+pub mod input;
+pub mod number;
