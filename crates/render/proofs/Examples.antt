@@ -9,17 +9,21 @@ use Rattle.at.specs.Event.{Value, num, place, event}
 use Rattle.at.specs.W26.{UUWLD, UUETHLU}
 use Rattle.at.specs.W36.{UESOC, UEWAPSA}
 use Rattle.at.specs.Walk.{eventThen, thenEnd, thenRefused}
-use Rattle.edm.specs.Packet.{dataPacket, connectEvent, atPacket}
+use Rattle.edm.specs.Packet.{identifiers, carried, dataPacket, connectEvent, atPacket}
 use Rattle.checks.specs.Part.{_from_for_}
 use Rattle.checks.specs.Explained.{accepted, refusedBy, none}
 use Rattle.checks.specs.declared.CheckName.the-variants.{FieldThere}
 use Rattle.checks.specs.declared.part.PartName.the-variants.{Name, Field}
+use Rattle.edm.specs.Payload.{readDataEvent}
+use Rattle.edm.specs.Frame.{readFrame}
+use Rattle.pcap.specs.File as captures
 use Rattle.render.specs.Words.{pairsOf, nameIn, reasons, numberWord, valuesLine}
 use Rattle.render.specs.Why.{whyLine, whyFrameLine}
 use Rattle.render.specs.Refusal.{refusals, refusedLine, frameRefusedLine}
 use Rattle.render.specs.Event.{cases26, cases36, caseOf, eventLine, answerLine}
 use Rattle.render.specs.Frame.{frameLine}
 use Rattle.render.specs.Walk.{walkLine}
+use Rattle.render.specs.Capture.{runLine, meaningLine}
 use Rattle.render.specs.Label.{checkNames, partNames}
 use Rattle.render.specs.Explained.{partsLine, explainedLine, binaryLine}
 
@@ -87,3 +91,17 @@ check-named = refl
 
 pub no-binary : binaryLine none ≡ bytes "notbinary"
 no-binary = refl
+
+-- a capture: each record with its time and its frame's place, and where it stops
+pub one-record : runLine (captures.recordThen (captures.entry 1 20 (hex "4142")) 40 (captures.thenRefused 20 42)) ≡ bytes "1.000020 @40+2 ; refused CaptureRecordInvalid @42"
+unfolding runLine decimal digitsOf refusedLine nameIn refusals
+one-record = refl
+
+-- a record with its frame, and what that means; an empty frame means nothing
+pub meant : meaningLine 17 999999 (hex "AA 00 04 00 36 03 41 55") ≡ bytes "17.999999 aa00040036034155 # DataEvent 3 41"
+unfolding meaningLine decimal digitsOf pairsOf readFrame identifiers carried readDataEvent valuesLine numberWord part
+meant = refl
+
+pub meant-empty : meaningLine 0 0 [] ≡ bytes "0.000000 - # refused PacketDecodeFramingInvalid"
+unfolding meaningLine decimal digitsOf readFrame frameRefusedLine nameIn refusals
+meant-empty = refl

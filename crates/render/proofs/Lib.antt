@@ -13,6 +13,7 @@ pub mod EventRoom
 pub mod LineRoom
 pub mod ResponseRoom
 pub mod WalkRoom
+pub mod CaptureRoom
 pub mod FrameRoom
 pub mod WhyRoom
 pub mod ExplainedLaws

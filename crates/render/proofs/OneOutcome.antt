@@ -18,6 +18,9 @@ use Rattle.render.proofs.why.w26 as why_w26
 use Rattle.render.proofs.why.w36 as why_w36
 use Rattle.render.proofs.why.binary as why_binary
 use Rattle.render.proofs.why.frame as why_frame
+use Rattle.render.proofs.capture.refused_at as capture_refused
+use Rattle.render.proofs.capture.answer as capture_answer
+use Rattle.render.proofs.capture.meaning as capture_meaning
 use Rattle.render.proofs.explained.frame as explained_frame
 use Rattle.render.proofs.explained.w26 as explained_w26
 use Rattle.render.proofs.explained.w36 as explained_w36
@@ -95,3 +98,13 @@ one-explained-binary κs a x y s t p q = printed-once p q
 
 pub one-explained-response : One 2 explained_response.Kinds.ps explained_response.Kinds.r explained_response.Reads.Post (λ κs x s. outcome x (s .0 .now))
 one-explained-response κs a x y s t p q = printed-once p q
+
+-- captures
+pub one-capture-refused : One 1 capture_refused.Kinds.ps capture_refused.Kinds.r capture_refused.Reads.Post (λ κs x s. outcome x (s .0 .now))
+one-capture-refused κs a x y s t p q = printed-once p q
+
+pub one-capture-answer : One 1 capture_answer.Kinds.ps capture_answer.Kinds.r capture_answer.Reads.Post (λ κs x s. outcome x (s .0 .now))
+one-capture-answer κs a x y s t p q = printed-once p q
+
+pub one-capture-meaning : One 2 capture_meaning.Kinds.ps capture_meaning.Kinds.r capture_meaning.Reads.Post (λ κs x s. outcome x (s .0 .now))
+one-capture-meaning κs a x y s t p q = printed-once p q

@@ -72,7 +72,7 @@ unfolding pairsOf
 pairs-length [] = refl
 pairs-length (b ∷ s) = omega (arith, pairs-length s)
 
-hex-within : (s : List ℕ) → length (hexOf s) ≤ 2 * length s + 1
+pub hex-within : (s : List ℕ) → length (hexOf s) ≤ 2 * length s + 1
 hex-within [] = omega arith
 hex-within (b ∷ s) = omega (arith, pairs-length (b ∷ s))
 

@@ -5,6 +5,7 @@ pub mod Event
 pub mod Response
 pub mod Frame
 pub mod Walk
+pub mod Capture
 pub mod Written
 pub mod Steps
 pub mod Why

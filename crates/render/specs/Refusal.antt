@@ -26,6 +26,9 @@ refusals =
     ∷ (16 is "EventUnknown")
     ∷ (17 is "FieldNotWritable")
     ∷ (18 is "EventBufferTooSmall")
+    ∷ (19 is "CaptureHeaderInvalid")
+    ∷ (20 is "CaptureRecordInvalid")
+    ∷ (21 is "CaptureBufferTooSmall")
     ∷ []
 
 unfoldable pub refusedLine : ℕ → List ℕ

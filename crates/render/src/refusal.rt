@@ -5,11 +5,13 @@ use at::AtPacketError;
 use checks::refusal::at_number;
 use checks::refusal::edm_number;
 use edm::EdmPacketError;
+use pcap::CaptureError;
 use writer::EventWriteError;
 ghost use mathlib.Core.Path.{_≡_};
 ghost use Rattle.at.specs.Refusal as events;
 ghost use Rattle.edm.specs.Refusal as frames;
 ghost use Rattle.writer.specs.Write as writing;
+ghost use Rattle.pcap.specs.Refusal as captures;
 ghost use Rattle.render.specs.Print.{Prints};
 ghost use Rattle.render.specs.Words.{nameIn};
 ghost use Rattle.render.specs.Refusal.{refusals, refusedLine, frameRefusedLine};
@@ -34,7 +36,10 @@ pub(crate) fn refusal_name(buf: &mut [u8], at: usize, n: usize) -> usize
         \x0f\x22TypeDecodeParameterDataTypeInvalid\
         \x10\x0cEventUnknown\
         \x11\x10FieldNotWritable\
-        \x12\x13EventBufferTooSmall";
+        \x12\x13EventBufferTooSmall\
+        \x13\x14CaptureHeaderInvalid\
+        \x14\x14CaptureRecordInvalid\
+        \x15\x15CaptureBufferTooSmall";
     name(buf, at, names, n)
 }
 
@@ -51,6 +56,16 @@ fn write_number(e: EventWriteError) -> usize
     match e {
         EventWriteError::FieldNotWritable => 17,
         EventWriteError::EventBufferTooSmall => 18,
+    }
+}
+
+fn capture_number(e: CaptureError) -> usize
+    ensures { λ r. ⌜ r ≡ captures.refusalNo e ⌝ }
+{
+    match e {
+        CaptureError::CaptureHeaderInvalid => 19,
+        CaptureError::CaptureRecordInvalid => 20,
+        CaptureError::CaptureBufferTooSmall => 21,
     }
 }
 
@@ -83,4 +98,10 @@ pub(crate) fn of_event_write(buf: &mut [u8], at: usize, e: EventWriteError) -> u
     ensures { λ r. ⌜ Prints (now (buf .entry)) at (refusedLine (writing.refusalNo e)) r (now (buf .exit)) ⌝ }
 {
     refused(buf, at, write_number(e))
+}
+
+pub(crate) fn of_capture(buf: &mut [u8], at: usize, e: CaptureError) -> usize
+    ensures { λ r. ⌜ Prints (now (buf .entry)) at (refusedLine (captures.refusalNo e)) r (now (buf .exit)) ⌝ }
+{
+    refused(buf, at, capture_number(e))
 }
