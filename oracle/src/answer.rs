@@ -4,7 +4,7 @@ use crate::judged::w26x::at_protocol::AtPacketError;
 use crate::judged::w26x::edm_protocol::{EdmPacket, EdmPacketError};
 use crate::record::{self, Call, Explained, Reader};
 use crate::rows::{self, Row};
-use crate::{differences, explain, rust, show, walk, why, writer};
+use crate::{differences, explain, pcap, rust, show, walk, why, writer};
 
 /// A panic that document 01 has no answer for.
 pub const PANIC: &str = "PANIC";
@@ -74,6 +74,10 @@ impl Answerer {
                 explain::answer(kind, bytes, start, out)
             }
             Call::Walk36 => walk::answer(bytes, out),
+            Call::Pcap => {
+                pcap::answer(bytes, out);
+                Ok(())
+            }
             Call::Response => response(bytes, out),
             Call::Data { size, channel } => {
                 let packet = EdmPacket::DataCommand { channel, data: bytes };

@@ -3,7 +3,7 @@
 
 use std::collections::BTreeMap;
 
-use crate::{explain, lines, record, walk};
+use crate::{explain, hex, lines, pcap, record, walk};
 
 /// The words that name the answer: a wrapper has what it wraps after it, and `refused` the refusal,
 /// which may have the field and the reason.
@@ -27,6 +27,11 @@ pub fn label(question: &[u8], answer: &[u8]) -> String {
     let mut words = question.split(' ');
     match (words.next(), words.next()) {
         (Some("explain"), Some(kind)) => format!("explain {kind} {}", explain::class(&answer)),
+        (Some("pcap"), Some(digits)) => {
+            let mut bytes = Vec::new();
+            hex::read(digits.as_bytes(), &mut bytes);
+            format!("pcap {}", pcap::class(&bytes, &answer))
+        }
         (kind, _) => format!("{} {}", kind.unwrap_or_default(), class(&answer)),
     }
 }

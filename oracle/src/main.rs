@@ -7,6 +7,7 @@ mod answer;
 #[cfg(feature = "archive")]
 mod archive;
 mod bluetooth;
+mod capture_slips;
 mod cases;
 mod classes;
 mod compare;
@@ -16,6 +17,7 @@ mod generate;
 mod hex;
 mod lines;
 mod panics;
+mod pcap;
 mod reach;
 mod record;
 mod recorded;

@@ -1,6 +1,7 @@
 //! Every class of answer that each kind of question can have. What the generator and the recorded
 //! list reach is held against this.
 
+use crate::pcap::{Cause, Order};
 use crate::record::{Explained, Reader};
 use crate::why::Amiss;
 use crate::{amiss, walk};
@@ -174,6 +175,7 @@ pub fn labels() -> Vec<String> {
         add(&mut labels, &format!("walk36 {count} refused "), &LINE_REFUSALS);
         add(&mut labels, &format!("walk36 {count} refused "), &FIELD_REFUSALS);
     }
+    add_captures(&mut labels);
     for again in ["again26 refused ", "again36 refused "] {
         add(&mut labels, again, &LINE_REFUSALS);
         add(&mut labels, again, &FIELD_REFUSALS);
@@ -245,6 +247,25 @@ fn add_explained(labels: &mut Vec<String>, kind: Explained) {
         add(labels, &refused, &RESPONSE_CHECKS[1..]);
     }
     labels.extend(accepted(reader));
+}
+
+/// Each cause of a refusal: those of the header in either byte order once the magic shows it, those of a
+/// record in either and after each count of records, as the end is.
+fn add_captures(labels: &mut Vec<String>) {
+    add_causes(labels, "0", &Cause::OF_MAGIC);
+    for order in Order::ALL.map(Order::word) {
+        add_causes(labels, &format!("{order} 0"), &Cause::OF_HEADER);
+        for count in walk::COUNTS {
+            add(labels, &format!("pcap {order} {count} "), &["end"]);
+            add_causes(labels, &format!("{order} {count}"), &Cause::OF_RECORD);
+        }
+    }
+}
+
+fn add_causes(labels: &mut Vec<String>, before: &str, causes: &[Cause]) {
+    for cause in causes {
+        add(labels, &format!("pcap {before} refused {} ", cause.refusal()), &[cause.word()]);
+    }
 }
 
 fn check(amiss: Amiss, field: usize) -> String {

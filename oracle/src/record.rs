@@ -62,13 +62,14 @@ impl Explained {
 
 /// One question. The bytes that it is about stand beside it. Why is Read with the field and the reason
 /// of a refusal (02, request 5), Explain has the check that refused or the bytes of each field (02,
-/// request 6).
+/// request 6), and Pcap is about a whole capture file (02, request 7).
 #[derive(Clone, Copy)]
 pub enum Call {
     Read(Reader),
     Why(Reader),
     Explain(Explained),
     Walk36,
+    Pcap,
     Response,
     Data { size: usize, channel: u8 },
     Request { size: usize },
@@ -78,7 +79,7 @@ pub enum Call {
 }
 
 impl Call {
-    /// What is explained of the same bytes. None for a walk and for what is written.
+    /// What is explained of the same bytes. None for a walk, for a capture and for what is written.
     pub fn explained(self) -> Option<Explained> {
         match self {
             Call::Read(reader) | Call::Why(reader) => Some(Explained::Read(reader)),
@@ -93,6 +94,7 @@ impl Call {
             Call::Why(reader) => reader.why_word(),
             Call::Explain(_) => "explain",
             Call::Walk36 => "walk36",
+            Call::Pcap => "pcap",
             Call::Response => "response",
             Call::Data { .. } => "data",
             Call::Request { .. } => "request",
@@ -118,6 +120,7 @@ pub fn parse(line: &[u8], bytes: &mut Vec<u8>) -> Option<Call> {
     let call = match kind {
         b"explain" => Call::Explain(explained(words.next()?)?),
         b"walk36" => Call::Walk36,
+        b"pcap" => Call::Pcap,
         b"response" => Call::Response,
         b"data" => Call::Data {
             size: size(words.next()?)?,
@@ -159,7 +162,7 @@ fn number(word: &[u8]) -> Option<usize> {
 pub fn push(out: &mut Vec<u8>, call: Call, bytes: &[u8]) {
     out.extend_from_slice(call.word().as_bytes());
     match call {
-        Call::Read(_) | Call::Why(_) | Call::Walk36 | Call::Response => {}
+        Call::Read(_) | Call::Why(_) | Call::Walk36 | Call::Pcap | Call::Response => {}
         Call::Explain(kind) => {
             out.push(b' ');
             out.extend_from_slice(kind.word().as_bytes());

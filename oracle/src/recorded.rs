@@ -4,6 +4,7 @@
 use std::collections::{BTreeMap, BTreeSet};
 
 use crate::answer::Answerer;
+use crate::pcap::{HEADER_BYTES, HEAD_BYTES};
 use crate::record::{self, Call, Explained, Reader};
 use crate::{amiss, cases, classes, generate};
 
@@ -64,6 +65,14 @@ const W36_LINES: [&str; 15] = [
     "~+UESODBF:2,10.0.0.1,5000{01 00 02 55 AA}",
 ];
 
+/// One file of two records in each byte order.
+const CAPTURES: [&str; 2] = [
+    "{D4 C3 B2 A1 02 00 04 00 00*8 03 10 00 00 93 00 00 00}\
+     {01 00 00 00 02 00 00 00 01 00 00 00 01 00 00 00}A{00*16}",
+    "{A1 B2 C3 D4 00 02 00 04 00*8 00 00 10 03 00 00 00 93}\
+     {00 00 00 01 00 00 00 02 00 00 00 01 00 00 00 01}A{00*16}",
+];
+
 pub fn lines(out: &mut Vec<u8>) -> Result<(), String> {
     for text in cases::RECORDED {
         for entry in cases::entries(text)? {
@@ -78,6 +87,7 @@ pub fn lines(out: &mut Vec<u8>) -> Result<(), String> {
     event_sizes(out)?;
     event_ends(out)?;
     field_flaws(out);
+    captures(out)?;
     sample_by_class(out);
     sample(out);
     Ok(())
@@ -157,6 +167,25 @@ fn field_flaws(out: &mut Vec<u8>) {
     }
 }
 
+/// Every beginning of a capture, and the whole with another byte at each place before its first frame.
+fn captures(out: &mut Vec<u8>) -> Result<(), String> {
+    push_heading(out, "# A capture of each byte order, cut after each byte");
+    for text in CAPTURES {
+        let bytes = bytes_of(text)?;
+        (0..=bytes.len()).for_each(|size| record::push(out, Call::Pcap, &bytes[..size]));
+    }
+    push_heading(out, "# The same with one bit changed in each byte before the first frame");
+    for text in CAPTURES {
+        let mut bytes = bytes_of(text)?;
+        for at in 0..HEADER_BYTES + HEAD_BYTES {
+            bytes[at] ^= 1;
+            record::push(out, Call::Pcap, &bytes);
+            bytes[at] ^= 1;
+        }
+    }
+    Ok(())
+}
+
 fn bytes_of(text: &str) -> Result<Vec<u8>, String> {
     cases::bytes(text).ok_or_else(|| format!("no bytes: {text}"))
 }
@@ -170,10 +199,13 @@ fn push_sizes(out: &mut Vec<u8>, call: &dyn Fn(usize) -> Call, text: &str) -> Re
     Ok(())
 }
 
+/// Lines by their class.
+type Found = BTreeMap<String, Vec<Vec<u8>>>;
+
 fn sample_by_class(out: &mut Vec<u8>) {
     let mut maker = generate::Maker::new(SEED);
     let mut answerer = Answerer::default();
-    let mut found: BTreeMap<String, Vec<Vec<u8>>> = BTreeMap::new();
+    let mut found = Found::new();
     let mut line = Vec::new();
     for _ in 0..DRAWN {
         line.clear();
@@ -187,16 +219,19 @@ fn sample_by_class(out: &mut Vec<u8>) {
             kept.push(line.clone());
         }
     }
-    // No other label comes after these.
-    let why = found.split_off("why");
-    let (explain, plain) = found.into_iter().partition(|(label, _)| label.starts_with("explain"));
-    let plain: BTreeMap<String, Vec<Vec<u8>>> = plain;
-    for (label, kept) in plain {
+    let fewer = [
+        ("why", "the questions that ask why"),
+        ("explain", "the questions that ask explain"),
+        ("pcap", "captures"),
+    ];
+    let fewer = fewer.map(|(word, what)| (word, what, take(&mut found, word)));
+    for (label, kept) in found {
         push_heading(out, &format!("# Generated: {label}"));
         kept.iter().for_each(|line| push_line(out, line));
     }
-    push_new_classes(out, "why", why);
-    push_new_classes(out, "explain", explain);
+    for (word, what, found) in fewer {
+        push_new_classes(out, word, what, found);
+    }
 }
 
 fn label(answerer: &mut Answerer, line: &[u8]) -> String {
@@ -205,13 +240,21 @@ fn label(answerer: &mut Answerer, line: &[u8]) -> String {
     classes::label(line, &answer)
 }
 
-/// The questions that ask why, or to explain, share most classes with the plain ones, and the lines
-/// above have many of their own. One line of each class that is still missing is enough.
-fn push_new_classes(out: &mut Vec<u8>, word: &str, found: BTreeMap<String, Vec<Vec<u8>>>) {
+/// Takes out the classes that begin with a word.
+fn take(found: &mut Found, word: &str) -> Found {
+    let (taken, left) =
+        std::mem::take(found).into_iter().partition(|(label, _)| label.starts_with(word));
+    *found = left;
+    taken
+}
+
+/// The questions that ask why, or to explain, share most classes with the plain ones, and of captures the
+/// lines above have many. One line of each class that is still missing is enough.
+fn push_new_classes(out: &mut Vec<u8>, word: &str, what: &str, found: Found) {
     let mut answerer = Answerer::default();
     let above = out.split(|&b| b == b'\n').filter(|line| line.starts_with(word.as_bytes()));
     let above: BTreeSet<_> = above.map(|line| label(&mut answerer, line)).collect();
-    push_heading(out, &format!("# Generated: further classes of the questions that ask {word}"));
+    push_heading(out, &format!("# Generated: further classes of {what}"));
     let new = found.iter().filter(|(label, _)| !above.contains(*label));
     new.filter_map(|(_, kept)| kept.first()).for_each(|line| push_line(out, line));
 }

@@ -4,7 +4,7 @@ use crate::answer::{self, Answerer, Outcome};
 use crate::classes::{self, Counts};
 use crate::judged::w26x::at_protocol::AtPacketError;
 use crate::judged::w26x::edm_protocol::{EdmPacket, EdmPacketError, EDM_PACKET_WIRE_OVERHEAD};
-use crate::{cases, differences, generate, reach, record, recorded, rust, slips};
+use crate::{capture_slips, cases, differences, generate, reach, record, recorded, rust, slips};
 
 /// Enough draws for every class, and quick.
 const DRAWN: usize = 600_000;
@@ -15,7 +15,9 @@ pub fn run() -> Result<bool, String> {
     for text in cases::RECORDED.into_iter().chain([cases::LONG]) {
         amiss += wrong_answers(text)?;
     }
-    amiss += slips::not_noticed("the cases", &typed()?);
+    let typed = typed()?;
+    amiss += slips::not_noticed("the cases", &typed);
+    amiss += capture_slips::not_noticed("the cases", &typed);
     let mut list = Vec::new();
     recorded::lines(&mut list)?;
     amiss += not_covered("the recorded list", &list);
@@ -105,9 +107,12 @@ fn is_unknown(name: &str) -> bool {
 }
 
 /// A list of questions must reach every class of answer, and ask for every flaw and show every slip in
-/// what a refusal for a field carries.
+/// what a refusal for a field carries, and every slip with captures.
 fn not_covered(what: &str, lines: &[u8]) -> usize {
-    not_reached(what, lines) + slips::not_asked(what, lines) + slips::not_noticed(what, lines)
+    not_reached(what, lines)
+        + slips::not_asked(what, lines)
+        + slips::not_noticed(what, lines)
+        + capture_slips::not_noticed(what, lines)
 }
 
 fn not_reached(what: &str, lines: &[u8]) -> usize {

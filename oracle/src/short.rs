@@ -1,5 +1,5 @@
-//! Every string up to some length over a few symbols, bare and after the beginnings of events. What a
-//! reader reads is asked about with both of its words, and explained, as responses are.
+//! Every string up to some length over a few symbols, bare and after the beginnings of events and of
+//! captures. What a reader reads is asked about with both of its words, and explained, as responses are.
 
 use crate::record::{self, Call, Reader};
 
@@ -53,6 +53,23 @@ const EVENTS: &[&[u8]] = &[
 /// Whole words, since a response turns on them.
 const WORDS: &[&[u8]] = &[b"\r", b"\n", b"\r\n", b"OK", b"ERROR", b"a", b"\xC3", b"\xA9"];
 
+/// The header of a capture in each byte order.
+const LITTLE: &[u8; 24] = b"\xD4\xC3\xB2\xA1\x02\0\x04\0\0\0\0\0\0\0\0\0\x03\x10\0\0\x93\0\0\0";
+const BIG: &[u8; 24] = b"\xA1\xB2\xC3\xD4\0\x02\0\x04\0\0\0\0\0\0\0\0\0\0\x10\x03\0\0\0\x93";
+
+/// The bytes of the magics of microseconds and nanoseconds.
+const MAGIC: &[&[u8]] = &[b"\xA1", b"\xB2", b"\xC3", b"\xD4", b"\x3C", b"\x4D"];
+
+/// For the two parts of a version, and for a link type.
+const VERSION: &[&[u8]] = &[b"\0", b"\x02", b"\x03", b"\x04"];
+const LINK_TYPE: &[&[u8]] = &[b"\0", b"\x93", b"\x92", b"\x01", b"\x10"];
+
+/// Whole numbers before a frame, 0, 1 and around the largest of the microseconds, and a byte of a frame.
+const LITTLE_NUMBERS: &[&[u8]] =
+    &[b"\0\0\0\0", b"\x01\0\0\0", b"\x3F\x42\x0F\0", b"\x40\x42\x0F\0", b"A"];
+const BIG_NUMBERS: &[&[u8]] =
+    &[b"\0\0\0\0", b"\0\0\0\x01", b"\0\x0F\x42\x3F", b"\0\x0F\x42\x40", b"A"];
+
 pub struct Set {
     call: Call,
     before: &'static [u8],
@@ -71,7 +88,7 @@ const fn set(
     Set { call, before, symbols, longest, after }
 }
 
-pub const SETS: [Set; 42] = [
+pub const SETS: [Set; 50] = [
     set(W26, b"", MARKS, 4, b""),
     set(W26, b"\r\n", MARKS, 4, b"\r\n"),
     set(W26, b"\r\n+UUDPD", MARKS, 4, b""),
@@ -112,6 +129,14 @@ pub const SETS: [Set; 42] = [
     set(Call::Walk36, b"", EVENTS, 5, b""),
     set(Call::Walk36, b"\r\n+UESOC:1\r\n", MARKS, 4, b"\r\n"),
     set(Call::Walk36, b"\r\n+UESODB:2\x01\x00\x02", MARKS, 4, b""),
+    set(Call::Pcap, b"", MAGIC, 4, LITTLE.split_at(4).1),
+    set(Call::Pcap, b"", MAGIC, 4, BIG.split_at(4).1),
+    set(Call::Pcap, LITTLE.split_at(4).0, VERSION, 5, LITTLE.split_at(8).1),
+    set(Call::Pcap, BIG.split_at(4).0, VERSION, 5, BIG.split_at(8).1),
+    set(Call::Pcap, LITTLE.split_at(20).0, LINK_TYPE, 5, b""),
+    set(Call::Pcap, BIG.split_at(20).0, LINK_TYPE, 5, b""),
+    set(Call::Pcap, LITTLE, LITTLE_NUMBERS, 6, b""),
+    set(Call::Pcap, BIG, BIG_NUMBERS, 6, b""),
     set(Call::Response, b"", MARKS, 4, b""),
     set(Call::Response, b"", WORDS, 5, b""),
     set(Call::Response, b"\r\n", WORDS, 4, b"\r\n"),

@@ -4,4 +4,5 @@ pub mod QuestionLaws
 pub mod ReplyLaws
 pub mod ReplyRoom
 pub mod WalkLaws
+pub mod CaptureLaws
 pub mod WrongReplies

@@ -1,6 +1,6 @@
 -- What a line asks: a word, a space, and what the word takes.
 --   frame, w26, w36, binary, walk36, response   HEX
---   whyframe, why26, why36, whybinary           HEX
+--   whyframe, why26, why36, whybinary, pcap     HEX
 --   request, again26, again36                   SIZE HEX
 --   data                                        SIZE CHANNEL HEX
 --   resend                                      SIZE
@@ -40,6 +40,7 @@ words =
     ∷ ("why26" asks kind.Read reader.Why26)
     ∷ ("why36" asks kind.Read reader.Why36)
     ∷ ("whybinary" asks kind.Read reader.WhyBinary)
+    ∷ ("pcap" asks kind.Read reader.Capture)
     ∷ ("data" asks kind.Data)
     ∷ ("request" asks kind.Write writer.Request)
     ∷ ("resend" asks kind.Resend)

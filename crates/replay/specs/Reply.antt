@@ -20,6 +20,7 @@ use Rattle.edm.specs.Command as command
 use Rattle.edm.specs.declared.EdmPacket.{EdmPacket}
 use Rattle.edm.specs.declared.EdmPacket.the-variants as packet
 use Rattle.writer.specs.Write as write
+use Rattle.pcap.specs.File.{readFile}
 use Rattle.checks.specs.Line.{lineChecks}
 use Rattle.checks.specs.Frame.{frameChecks}
 use Rattle.checks.specs.Binary.{binaryChecks}
@@ -33,6 +34,7 @@ use Rattle.render.specs.Frame.{frameLine}
 use Rattle.render.specs.Walk.{triedLine, walkLine}
 use Rattle.render.specs.Why.{whyLine, whyTriedLine, whyFrameLine}
 use Rattle.render.specs.Written.{wroteLine}
+use Rattle.render.specs.Capture.{runLine}
 use Rattle.render.specs.Explained.{explainsLine, explainsBinaryLine}
 use Rattle.replay.specs.declared.question.Reader.{Reader}
 use Rattle.replay.specs.declared.question.Reader.the-variants as reader
@@ -67,6 +69,7 @@ readReply reader.WhyFrame s = whyFrameLine s (readFrame s)
 readReply reader.Why26 s = whyLine cases26 s (readLine w26 0 s)
 readReply reader.Why36 s = whyLine cases36 s (readLine w36 0 s)
 readReply reader.WhyBinary s = whyTriedLine s (tryRows binaryTable 0 s)
+readReply reader.Capture s = runLine (readFile s)
 readReply (reader.Explain x) s = explainReply x s
 
 -- what was written, or the refusal, whose line is `refusal`

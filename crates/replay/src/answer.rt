@@ -1,4 +1,5 @@
 // The answer to a line.
+use crate::capture::every_record;
 use crate::question::Explained;
 use crate::question::Question;
 use crate::question::Reader;
@@ -61,6 +62,7 @@ fn read(output: &mut [u8], place: usize, src: &[u8], reader: Reader) -> usize
             src,
             at::w36::try_parse_binary(src, 0),
         ),
+        Reader::Capture => every_record(output, place, src),
         Reader::Explain(kind) => explain(output, place, src, kind),
     }
 }

@@ -1,6 +1,7 @@
 // Reads questions from standard input, a line each, and prints an answer for each: what a frame or a line of a radio means, or what is
 // written for a command or an event.
 mod answer;
+mod capture;
 mod question;
 mod session;
 mod walk;

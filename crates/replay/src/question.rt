@@ -22,6 +22,7 @@ pub(crate) enum Reader {
     Why26,
     Why36,
     WhyBinary,
+    Capture,
     Explain(Explained),
 }
 
@@ -101,12 +102,15 @@ fn kind_of(name: &[u8]) -> Kind
     if same(name, b"whybinary") {
         return Kind::Read(Reader::WhyBinary);
     }
+    if same(name, b"pcap") {
+        return Kind::Read(Reader::Capture);
+    }
     writing_kind_of(name)
 }
 
 // The words that take more than bytes.
 fn writing_kind_of(name: &[u8]) -> Kind
-    ensures { λ r. ⌜ r ≡ kindOf (drop 10 words) (now (name .entry)) ⌝ }
+    ensures { λ r. ⌜ r ≡ kindOf (drop 11 words) (now (name .entry)) ⌝ }
 {
     if same(name, b"data") {
         return Kind::Data;

@@ -2,6 +2,7 @@
 
 mod aimed;
 mod binary;
+mod captures;
 mod damage;
 mod events;
 mod frames;
@@ -23,6 +24,9 @@ const WHY: usize = 6;
 
 /// And one in this many of those that can be explained is explained.
 const EXPLAIN: usize = 4;
+
+/// One line in this many is a capture.
+const CAPTURE: usize = 16;
 
 /// Up to two things in which a line or frame departs from a good one. Most lines have none, so that
 /// every event is read often, and the others show one refusal at a time.
@@ -46,27 +50,37 @@ impl Flaws {
     }
 }
 
+/// Captures have random numbers of their own, so that the other lines of a seed are the same with and
+/// without them.
 pub struct Maker {
     rng: Rng,
+    captures: Option<Rng>,
     bytes: Vec<u8>,
     explains: bool,
 }
 
 impl Maker {
     pub fn new(seed: u64) -> Maker {
-        Maker { rng: Rng::new(seed), bytes: Vec::new(), explains: true }
+        let captures = Some(Rng::new(!seed));
+        Maker { rng: Rng::new(seed), captures, bytes: Vec::new(), explains: true }
     }
 
-    /// The same inputs without a word that explains, which the crate does not have.
+    /// The same inputs without what the crate does not have: captures, and a word that explains.
     #[cfg(feature = "archive")]
     pub fn for_crate(seed: u64) -> Maker {
-        Maker { explains: false, ..Maker::new(seed) }
+        Maker { captures: None, explains: false, ..Maker::new(seed) }
     }
 
     /// Appends one record line.
     pub fn line(&mut self, out: &mut Vec<u8>) {
         let (rng, bytes) = (&mut self.rng, &mut self.bytes);
         bytes.clear();
+        if let Some(rng) = &mut self.captures {
+            if rng.one_in(CAPTURE) {
+                captures::file(rng, bytes);
+                return record::push(out, Call::Pcap, bytes);
+            }
+        }
         let mut call = if rng.one_in(LONG) { long::make(rng, bytes) } else { make(rng, bytes) };
         if let (Call::Read(reader), true) = (call, rng.one_in(WHY)) {
             call = Call::Why(reader);

@@ -34,7 +34,10 @@ returns-10 : tie.Need-returns-10
 returns-10 c = rw (c .before .before .before .before .before .enum-told10 .given .1, ← c .before .before .before .try-parse-binary2 .ensures) (c .before .before .binary .ensures)
 
 returns-11 : tie.Need-returns-11
-returns-11 c = rw (c .before .before .before .before .before .reader .given .1) (c .before .before .explain .ensures)
+returns-11 c = rw (c .before .before .before .before .enum-told11 .given .1) (c .before .before .every-record .ensures)
+
+returns-12 : tie.Need-returns-12
+returns-12 c = rw (c .before .before .before .before .before .reader .given .1) (c .before .before .explain .ensures)
 
 pub read-spec : {M : Type 1} → statement M
 read-spec =
@@ -72,6 +75,8 @@ read-spec =
     (λ c. search needs)
     (λ c κs. search needs)
     (λ c. search needs)
+    (λ c κs. search needs)
+    (λ c. search needs)
     returns
     (λ c. search needs)
     returns-2
@@ -92,4 +97,6 @@ read-spec =
     (λ c. search needs)
     returns-10
     (λ c. search needs)
-    returns-11)
+    returns-11
+    (λ c. search needs)
+    returns-12)
