@@ -18,13 +18,13 @@ LONGEST_FRAME = 4099
 LONGEST_LINE = 65536
 SHOWN = 10  # differences
 
-cases = 0
+comparisons = 0
 differences = 0
 
 
 def hold(what, expected, came):
-    global cases, differences
-    cases += 1
+    global comparisons, differences
+    comparisons += 1
     if came == expected:
         return
     differences += 1
@@ -285,6 +285,6 @@ hold_lines()
 hold_generated()
 hold_faults()
 if differences:
-    print(f"captures: {differences} of {cases} cases not as expected, of which up to {SHOWN} are shown")
+    print(f"captures: {differences} of {comparisons} comparisons not as expected, of which up to {SHOWN} are shown")
     sys.exit(1)
-print(f"captures: {cases} cases as expected")
+print(f"captures: {comparisons} comparisons as expected")
