@@ -1,0 +1,16 @@
+pub mod RunLaws
+pub mod CutLaws
+pub mod FillLaws
+pub mod ScanLaws
+pub mod Ranges
+pub mod Room
+pub mod Rows
+pub mod ListedLaws
+pub mod Decided
+pub mod Windows
+pub mod Programs
+pub mod WindowPrograms
+pub mod KeptPrograms
+pub mod Examples
+pub mod OneOutcome
+pub mod WrongPrograms
