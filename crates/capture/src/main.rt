@@ -1,6 +1,5 @@
 // Captures that Wireshark opens: writes one from lines with times and frames, or reads one and prints such lines with what each frame means.
 mod line;
-mod output;
 mod read;
 mod window;
 mod write;

@@ -1,11 +1,11 @@
 // `capture read`: a capture on standard input, and a line for each of its records.
-use crate::output::Out;
-use crate::output::with_room;
-use crate::output::write_out;
 use crate::window::Window;
 use crate::window::at_hand;
 use crate::window::refill;
 use libc::STDERR_FILENO;
+use lines::output::Out;
+use lines::output::with_room;
+use lines::output::write_out;
 use pcap::ByteOrder;
 use pcap::CaptureError;
 use pcap::HeaderAnswer;
@@ -114,6 +114,8 @@ fn turn(input: &mut [u8], output: &mut [u8], order: ByteOrder, r: Reading) -> Re
         if !found.is_end {
             refuse(output, CaptureError::CaptureRecordInvalid, place);
         }
+    } else {
+        os::fail(b"capture: cannot write standard output");
     }
     Reading {
         window,

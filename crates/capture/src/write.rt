@@ -2,14 +2,14 @@
 use crate::line::Fault;
 use crate::line::Said;
 use crate::line::record_in;
-use crate::output::Out;
-use crate::output::with_room;
-use crate::output::write_out;
 use crate::window::Window;
 use crate::window::at_hand;
 use crate::window::refill;
 use libc::STDERR_FILENO;
 use lines::input::line_end;
+use lines::output::Out;
+use lines::output::with_room;
+use lines::output::write_out;
 use pcap::WriteAnswer;
 use pcap::write::write_header;
 use pcap::write::write_record;
@@ -58,6 +58,7 @@ impl Writing {
     fn written(mut self, out: Out) -> Self {
         self.out = out;
         if !out.works {
+            os::fail(b"capture: cannot write standard output");
             self.goes_on = false;
         }
         self

@@ -18,44 +18,10 @@ mod verdict;
 use crate::page::page;
 use crate::subject::Kind;
 use libc::STDERR_FILENO;
-use libc::STDIN_FILENO;
 use libc::STDOUT_FILENO;
+use lines::input::read_full;
 use text::bytes::part;
 use text::bytes::same;
-ghost use Prim.Native.Nat.{_≤_};
-ghost use lib.ListN.{length};
-
-// How many bytes there are, and whether the system failed to read more.
-struct Got {
-    count: usize,
-    failed: bool,
-}
-
-// Reads until `input` is full or ends.
-fn read_full(input: &mut [u8]) -> Got
-    ensures { λ r. ⌜ r .count ≤ length (now (input .exit)) ⌝ }
-{
-    let mut count = 0;
-    while count < input.len() {
-        let room = &mut input[count..];
-        let got = libc::read(STDIN_FILENO, room);
-        if got < 0 {
-            return Got {
-                count,
-                failed: true,
-            };
-        }
-        let more = io::count(got, room);
-        if more == 0 {
-            break;
-        }
-        count += more;
-    }
-    Got {
-        count,
-        failed: false,
-    }
-}
 
 // What the arguments ask for, if they are understood.
 enum Asked {
@@ -119,7 +85,7 @@ fn request() -> Asked {
 // A byte of the input takes at most 90 of the page (html.rt), so there is room for 4,100 of them and all else.
 fn explain(kind: Kind, html: bool) {
     let mut input = [0u8; 4100];
-    let got = read_full(&mut input);
+    let got = read_full(&mut input, 0);
     if got.failed {
         os::fail(b"explain: cannot read standard input");
         return;

@@ -1,7 +1,7 @@
 // Judges the first 4,100 bytes of standard input as one EDM frame, and prints what it is as one line.
 use libc::STDERR_FILENO;
-use libc::STDIN_FILENO;
 use libc::STDOUT_FILENO;
+use lines::input::read_full;
 use render::word::word;
 use text::bytes::part;
 ghost use Prim.Native.Nat.{_≤_};
@@ -20,38 +20,6 @@ fn judge(line: &mut [u8], input: &[u8]) -> usize
     word(line, end, b"\n")
 }
 
-// How many bytes there are, and whether the system failed to read more.
-struct Got {
-    count: usize,
-    failed: bool,
-}
-
-// Reads until `input` is full or ends.
-fn read_full(input: &mut [u8]) -> Got
-    ensures { λ r. ⌜ r .count ≤ length (now (input .exit)) ⌝ }
-{
-    let mut count = 0;
-    while count < input.len() {
-        let room = &mut input[count..];
-        let got = libc::read(STDIN_FILENO, room);
-        if got < 0 {
-            return Got {
-                count,
-                failed: true,
-            };
-        }
-        let more = io::count(got, room);
-        if more == 0 {
-            break;
-        }
-        count += more;
-    }
-    Got {
-        count,
-        failed: false,
-    }
-}
-
 fn main() {
     // A name of a file would go unread, and the line would then be about other bytes.
     if 1 < os::arg_count() {
@@ -62,7 +30,7 @@ fn main() {
         return;
     }
     let mut input = [0u8; 4100];
-    let got = read_full(&mut input);
+    let got = read_full(&mut input, 0);
     if got.failed {
         os::fail(b"judge: cannot read standard input");
         return;

@@ -1,14 +1,14 @@
 -- Laws of bytes that are moved to the front of their own buffer, one after the other: the first n of those from `start` on stand there. And of a read
 -- that goes after the bytes that are kept.
-use Prim.Native.Nat.{ℕ, _+_, _-_, _≤_, _<_}
+use Prim.Native.Nat.{ℕ, _+_, _-_, _≤_, _<_, min}
 use mathlib.Core.Path.{_≡_, sym, ap, _∙_}
 use mathlib.Core.List.{List, _++_}
 use native.Mathlib.Omega.{arith}
-use native.Mathlib.Nat.{zero-add}
+use native.Mathlib.Nat.{zero-add, min-le-left, min-le-right, min-eq-left}
 use native.Mathlib.Numerals.{add-one}
 use borrow.Rule.Slice.PartMut.{putMid}
 use lib.ListN.{length, take, drop, getD, set, length-drop, length-set}
-use lib.Seq.{paste, paste-suc, length-paste, drop-paste, getD-drop, length-take-le, take-all, take-at}
+use lib.Seq.{paste, paste-suc, length-paste, drop-paste, getD-drop, length-take-le, take-all, take-at, take-take}
 use Rattle.text.specs.Bytes.{part}
 use Rattle.lines.specs.Input.{withFront, ReadAfter}
 
@@ -54,3 +54,22 @@ module _ (b : List ℕ) (start : ℕ) where
 pub after-a-read : (kept k n : ℕ) (b read : List ℕ) → kept ≤ length b → kept + n ≤ length b → ReadAfter b kept (kept + n) (putMid kept k b read)
 after-a-read kept k n b read h l =
     record { stays = take-at (take kept b) (read ++ drop k (drop kept b)) kept (length-take-le kept b h); keeps = omega arith; fits = l }
+
+-- reads one after the other
+min-of : (m n : ℕ) → m ≤ n → min m n ≡ m
+min-of m n h = min-eq-left h
+
+module _ (b c : List ℕ) (kept count : ℕ) (s : take kept c ≡ take kept b) (h : kept ≤ count) (l : length c ≡ length b) where
+  pub still-stays : (n : ℕ) (d : List ℕ) → ReadAfter c count n d → take kept d ≡ take kept b
+  still-stays n d r = sym (take-take kept count d h) ∙ ap (take kept) (r .stays) ∙ take-take kept count c h ∙ s
+
+  pub read-more : (n : ℕ) (d : List ℕ) → count < length c → ReadAfter c count n d → (count ≤ n) × ReadAfter b kept n d
+  read-more n d g r =
+      let k = r .keeps in
+      let f = r .fits in
+      let m = min-le-left kept (length b) in
+      let e = min-of count (length c) (omega arith) in
+      (omega arith, record { stays = still-stays n d r; keeps = omega arith; fits = omega arith })
+
+  pub read-all : length c ≤ count → ReadAfter b kept (length c) c
+  read-all g = let m = min-le-right kept (length b) in record { stays = s; keeps = omega arith; fits = omega arith }

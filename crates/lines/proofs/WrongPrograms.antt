@@ -2,6 +2,7 @@
 -- `decode.Reads.Post` is what `decode` ensures. Assumes nothing.
 use Prim.Native.Nat.{ℕ, _≤_}
 use mathlib.Core.Path.{_≡_}
+use mathlib.Core.Bool.{false}
 use contract.Lifetimes.{Lfts}
 use denote.Triple.Clauses.{AtExit}
 use borrow.Fn.Kinds.{Dens, endedOf}
@@ -14,6 +15,7 @@ use Rattle.lines.specs.Number.{numberIn}
 use Rattle.lines.specs.declared.hex.Decoded.{Decoded}
 use Rattle.lines.specs.declared.hex.Decoded.the-variants as decoded
 use Rattle.lines.specs.declared.input.Got.{Got}
+use Rattle.lines.specs.declared.output.Out.{Out}
 use Rattle.lines.specs.declared.number.Number.{Number}
 use Rattle.lines.specs.declared.number.Number.the-variants as number
 use Rattle.lines.proofs.OneOutcome.{number-injective}
@@ -22,6 +24,9 @@ use Rattle.lines.proofs.number.decimal as decimal
 use Rattle.lines.proofs.input.line_end as line-end
 use Rattle.lines.proofs.input.move_to_front as move-to-front
 use Rattle.lines.proofs.input.read_after as read-after
+use Rattle.lines.proofs.input.read_full as read-full
+use Rattle.lines.proofs.output.write_out as write-out
+use Rattle.lines.proofs.output.with_room as with-room
 
 module _ (κs : Lfts 2) (a : Dens κs decode.Kinds.ps) (x : Decoded) (e : AtExit (endedOf 2 decode.Kinds.ps decode.Kinds.r) κs) (p : decode.Reads.Post κs a x e)
     (b : a .0 .now ≡ hex "FF FF") where
@@ -79,3 +84,26 @@ module _ (κs : Lfts 1) (a : Dens κs read-after.Kinds.ps) (x : Got) (e : AtExit
 
   pub no-more-than-room : x .count ≤ 2
   no-more-than-room = rw s at p .fits
+
+module _ (κs : Lfts 1) (a : Dens κs read-full.Kinds.ps) (x : Got) (e : AtExit (endedOf 1 read-full.Kinds.ps read-full.Kinds.r) κs) (p : read-full.Reads.Post κs a x e)
+    (s : a .0 .now ≡ hex "AA BB") where
+  pub full-kept-byte : a .1 .0 ≡ 1 → take 1 (e .0 .now) ≡ hex "AA"
+  full-kept-byte k = rw (s, k) at p .stays
+
+  pub full-no-more-than-room : x .count ≤ 2
+  full-no-more-than-room = rw s at p .fits
+
+-- one that writes what may still leave room, or does not write what may leave none; one that goes on with what it has written; one that tries again
+module _ (κs : Lfts 1) (a : Dens κs with-room.Kinds.ps) (x : Out) (e : AtExit (endedOf 1 with-room.Kinds.ps with-room.Kinds.r) κs) (p : with-room.Reads.Post κs a x e) where
+  pub room-left : a .1 .0 .count ≡ 114000 → x .count ≡ 114000
+  room-left c = rw c at p .0
+
+  pub no-room-left : a .1 .0 .count ≡ 114001 → x .count ≡ 0
+  no-room-left c = rw c at p .0
+
+module _ (κs : Lfts 1) (a : Dens κs write-out.Kinds.ps) (x : Out) (e : AtExit (endedOf 1 write-out.Kinds.ps write-out.Kinds.r) κs) (p : write-out.Reads.Post κs a x e) where
+  pub nothing-left : x .count ≡ 0
+  nothing-left = p .0
+
+  pub failed-for-good : a .1 .0 .works ≡ false → x .works ≡ false
+  failed-for-good = p .1

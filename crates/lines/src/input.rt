@@ -33,6 +33,24 @@ pub fn read_after(input: &mut [u8], kept: usize) -> Got
     }
 }
 
+// Reads until the buffer is full or the input ends, after the bytes that are kept.
+pub fn read_full(input: &mut [u8], kept: usize) -> Got
+    ensures { λ r. ⌜ ReadAfter (now (input .entry)) kept (r .count) (now (input .exit)) ⌝ }
+{
+    let mut count = kept;
+    while count < input.len() {
+        let got = read_after(input, count);
+        if got.count <= count {
+            return got;
+        }
+        count = got.count;
+    }
+    Got {
+        count: input.len(),
+        failed: false,
+    }
+}
+
 // The place of the first line end at `from` or after it, or the length of `s`.
 pub fn line_end(s: &[u8], from: usize) -> usize
     ensures { λ r. ⌜ (r ≡ lineEnd (now (s .entry)) from) × (r < length (now (s .entry)) → from ≤ r) ⌝ }

@@ -1,4 +1,5 @@
-// What lines of text say, for programs that read them: bytes in hex, numbers, and standard input in pieces.
+// What lines of text say, for programs that read them: bytes in hex, numbers, and standard input and output in pieces.
 pub mod hex;
 pub mod input;
 pub mod number;
+pub mod output;
