@@ -23,7 +23,10 @@ use Rattle.render.specs.Refusal.{refusals, refusedLine, frameRefusedLine
 use Rattle.render.specs.Event.{cases26, cases36, caseOf, eventLine, answerLine}
 use Rattle.render.specs.Frame.{frameLine}
 use Rattle.render.specs.Walk.{walkLine}
+use Rattle.scan.specs.Cut.{kept, skipped}
+use Rattle.scan.specs.Scan.{listed, refuse}
 use Rattle.render.specs.Capture.{runLine, meaningLine}
+use Rattle.render.specs.Range.{moreLine, scanLine}
 use Rattle.render.specs.Label.{checkNames, partNames}
 use Rattle.render.specs.Explained.{partsLine, explainedLine, binaryLine}
 
@@ -105,3 +108,15 @@ meant = refl
 pub meant-empty : meaningLine 0 0 [] ≡ bytes "0.000000 - # refused PacketDecodeFramingInvalid"
 unfolding meaningLine decimal digitsOf readFrame frameRefusedLine nameIn refusals
 meant-empty = refl
+
+-- a dump: its ranges in order, none, and more bytes than a call takes
+pub three-ranges : scanLine (listed (skipped (hex "00") ∷ kept (hex "AA 00 02 00 71 55") ∷ skipped (hex "FF AA") ∷ [])) ≡ bytes "skipped 0+1 ; kept 1+6 ; skipped 7+2"
+unfolding moreLine decimal digitsOf
+three-ranges = refl
+
+pub no-range : scanLine (listed []) ≡ bytes "-"
+no-range = refl
+
+pub too-many-bytes : scanLine (refuse 23) ≡ bytes "refused DumpTooLong"
+unfolding refusedLine nameIn refusals
+too-many-bytes = refl

@@ -15,6 +15,7 @@ pub mod ResponseRoom
 pub mod WalkRoom
 pub mod CaptureRoom
 pub mod FrameRoom
+pub mod RangeRoom
 pub mod WhyRoom
 pub mod ExplainedLaws
 pub mod PartRoom

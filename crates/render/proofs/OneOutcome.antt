@@ -21,6 +21,9 @@ use Rattle.render.proofs.why.frame as why_frame
 use Rattle.render.proofs.capture.refused_at as capture_refused
 use Rattle.render.proofs.capture.answer as capture_answer
 use Rattle.render.proofs.capture.meaning as capture_meaning
+use Rattle.render.proofs.range.range as range_range
+use Rattle.render.proofs.range.meaning as range_meaning
+use Rattle.render.proofs.refusal.of_scan as scan_refused
 use Rattle.render.proofs.explained.frame as explained_frame
 use Rattle.render.proofs.explained.w26 as explained_w26
 use Rattle.render.proofs.explained.w36 as explained_w36
@@ -108,3 +111,13 @@ one-capture-answer κs a x y s t p q = printed-once p q
 
 pub one-capture-meaning : One 2 capture_meaning.Kinds.ps capture_meaning.Kinds.r capture_meaning.Reads.Post (λ κs x s. outcome x (s .0 .now))
 one-capture-meaning κs a x y s t p q = printed-once p q
+
+-- dumps
+pub one-range : One 1 range_range.Kinds.ps range_range.Kinds.r range_range.Reads.Post (λ κs x s. outcome x (s .0 .now))
+one-range κs a x y s t p q = printed-once p q
+
+pub one-range-meaning : One 2 range_meaning.Kinds.ps range_meaning.Kinds.r range_meaning.Reads.Post (λ κs x s. outcome x (s .0 .now))
+one-range-meaning κs a x y s t p q = printed-once p q
+
+pub one-scan-refused : One 1 scan_refused.Kinds.ps scan_refused.Kinds.r scan_refused.Reads.Post (λ κs x s. outcome x (s .0 .now))
+one-scan-refused κs a x y s t p q = printed-once p q

@@ -6,6 +6,7 @@ pub mod Response
 pub mod Frame
 pub mod Walk
 pub mod Capture
+pub mod Range
 pub mod Written
 pub mod Steps
 pub mod Why

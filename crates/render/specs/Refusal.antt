@@ -29,6 +29,8 @@ refusals =
     ∷ (19 is "CaptureHeaderInvalid")
     ∷ (20 is "CaptureRecordInvalid")
     ∷ (21 is "CaptureBufferTooSmall")
+    ∷ (22 is "RangeListFull")
+    ∷ (23 is "DumpTooLong")
     ∷ []
 
 unfoldable pub refusedLine : ℕ → List ℕ

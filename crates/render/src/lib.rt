@@ -8,6 +8,7 @@ pub mod frame;
 mod hex;
 mod label;
 mod name;
+pub mod range;
 pub mod refusal;
 pub mod response;
 pub mod w26;

@@ -6,12 +6,14 @@ use checks::refusal::at_number;
 use checks::refusal::edm_number;
 use edm::EdmPacketError;
 use pcap::CaptureError;
+use scan::ScanError;
 use writer::EventWriteError;
 ghost use mathlib.Core.Path.{_≡_};
 ghost use Rattle.at.specs.Refusal as events;
 ghost use Rattle.edm.specs.Refusal as frames;
 ghost use Rattle.writer.specs.Write as writing;
 ghost use Rattle.pcap.specs.Refusal as captures;
+ghost use Rattle.scan.specs.Scan as dumps;
 ghost use Rattle.render.specs.Print.{Prints};
 ghost use Rattle.render.specs.Words.{nameIn};
 ghost use Rattle.render.specs.Refusal.{refusals, refusedLine, frameRefusedLine};
@@ -39,7 +41,9 @@ pub(crate) fn refusal_name(buf: &mut [u8], at: usize, n: usize) -> usize
         \x12\x13EventBufferTooSmall\
         \x13\x14CaptureHeaderInvalid\
         \x14\x14CaptureRecordInvalid\
-        \x15\x15CaptureBufferTooSmall";
+        \x15\x15CaptureBufferTooSmall\
+        \x16\x0dRangeListFull\
+        \x17\x0bDumpTooLong";
     name(buf, at, names, n)
 }
 
@@ -66,6 +70,15 @@ fn capture_number(e: CaptureError) -> usize
         CaptureError::CaptureHeaderInvalid => 19,
         CaptureError::CaptureRecordInvalid => 20,
         CaptureError::CaptureBufferTooSmall => 21,
+    }
+}
+
+fn scan_number(e: ScanError) -> usize
+    ensures { λ r. ⌜ r ≡ dumps.refusalNo e ⌝ }
+{
+    match e {
+        ScanError::RangeListFull => 22,
+        ScanError::DumpTooLong => 23,
     }
 }
 
@@ -104,4 +117,10 @@ pub(crate) fn of_capture(buf: &mut [u8], at: usize, e: CaptureError) -> usize
     ensures { λ r. ⌜ Prints (now (buf .entry)) at (refusedLine (captures.refusalNo e)) r (now (buf .exit)) ⌝ }
 {
     refused(buf, at, capture_number(e))
+}
+
+pub fn of_scan(buf: &mut [u8], at: usize, e: ScanError) -> usize
+    ensures { λ r. ⌜ Prints (now (buf .entry)) at (refusedLine (dumps.refusalNo e)) r (now (buf .exit)) ⌝ }
+{
+    refused(buf, at, scan_number(e))
 }
