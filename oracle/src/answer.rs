@@ -4,7 +4,7 @@ use crate::judged::w26x::at_protocol::AtPacketError;
 use crate::judged::w26x::edm_protocol::{EdmPacket, EdmPacketError};
 use crate::record::{self, Call, Explained, Reader};
 use crate::rows::{self, Row};
-use crate::{differences, explain, pcap, rust, show, walk, why, writer};
+use crate::{differences, explain, pcap, rust, scan, show, walk, why, writer};
 
 /// A panic that document 01 has no answer for.
 pub const PANIC: &str = "PANIC";
@@ -78,6 +78,7 @@ impl Answerer {
                 pcap::answer(bytes, out);
                 Ok(())
             }
+            Call::Scan => scan::answer(bytes, bed, out),
             Call::Response => response(bytes, out),
             Call::Data { size, channel } => {
                 let packet = EdmPacket::DataCommand { channel, data: bytes };

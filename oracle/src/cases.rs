@@ -7,7 +7,7 @@
 use crate::hex;
 
 /// The files that are also the first part of the recorded list.
-pub const RECORDED: [&str; 8] = [
+pub const RECORDED: [&str; 9] = [
     include_str!("../cases/examples.txt"),
     include_str!("../cases/rules.txt"),
     include_str!("../cases/corners.txt"),
@@ -16,6 +16,7 @@ pub const RECORDED: [&str; 8] = [
     include_str!("../cases/why.txt"),
     include_str!("../cases/explain.txt"),
     include_str!("../cases/captures.txt"),
+    include_str!("../cases/dumps.txt"),
 ];
 /// Inputs too long for a list that is kept.
 pub const LONG: &str = include_str!("../cases/long.txt");

@@ -3,7 +3,7 @@
 
 use std::collections::BTreeMap;
 
-use crate::{explain, hex, lines, pcap, record, walk};
+use crate::{explain, hex, lines, pcap, record, scan, walk};
 
 /// The words that name the answer: a wrapper has what it wraps after it, and `refused` the refusal,
 /// which may have the field and the reason.
@@ -32,6 +32,7 @@ pub fn label(question: &[u8], answer: &[u8]) -> String {
             hex::read(digits.as_bytes(), &mut bytes);
             format!("pcap {}", pcap::class(&bytes, &answer))
         }
+        (Some("scan"), _) => format!("scan {}", scan::class(&answer)),
         (kind, _) => format!("{} {}", kind.unwrap_or_default(), class(&answer)),
     }
 }

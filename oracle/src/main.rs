@@ -24,6 +24,8 @@ mod recorded;
 mod rng;
 mod rows;
 mod rust;
+mod scan;
+mod scan_slips;
 mod selftest;
 mod short;
 mod show;

@@ -161,6 +161,27 @@ const OTHERS: [&str; 17] = [
     "again36 wrote",
 ];
 
+/// The first ranges of a dump in every order that there is: no two skipped ones are neighbours. A dump
+/// that is refused is too long for the recorded list; the slips at the limit ask the generator for one.
+const DUMPS: [&str; 16] = [
+    "-",
+    "kept",
+    "skipped",
+    "kept kept",
+    "kept skipped",
+    "skipped kept",
+    "kept kept kept",
+    "kept kept skipped",
+    "kept skipped kept",
+    "skipped kept kept",
+    "skipped kept skipped",
+    "kept kept kept ..",
+    "kept kept skipped ..",
+    "kept skipped kept ..",
+    "skipped kept kept ..",
+    "skipped kept skipped ..",
+];
+
 /// The classes with their kind before them, as `classes::label` gives them.
 pub fn labels() -> Vec<String> {
     let mut labels: Vec<String> = OTHERS.iter().map(|label| label.to_string()).collect();
@@ -176,6 +197,7 @@ pub fn labels() -> Vec<String> {
         add(&mut labels, &format!("walk36 {count} refused "), &FIELD_REFUSALS);
     }
     add_captures(&mut labels);
+    add(&mut labels, "scan ", &DUMPS);
     for again in ["again26 refused ", "again36 refused "] {
         add(&mut labels, again, &LINE_REFUSALS);
         add(&mut labels, again, &FIELD_REFUSALS);

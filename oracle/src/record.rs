@@ -62,7 +62,7 @@ impl Explained {
 
 /// One question. The bytes that it is about stand beside it. Why is Read with the field and the reason
 /// of a refusal (02, request 5), Explain has the check that refused or the bytes of each field (02,
-/// request 6), and Pcap is about a whole capture file (02, request 7).
+/// request 6), Pcap is about a whole capture file (02, request 7), and Scan about a dump (02, request 8).
 #[derive(Clone, Copy)]
 pub enum Call {
     Read(Reader),
@@ -70,6 +70,7 @@ pub enum Call {
     Explain(Explained),
     Walk36,
     Pcap,
+    Scan,
     Response,
     Data { size: usize, channel: u8 },
     Request { size: usize },
@@ -79,7 +80,7 @@ pub enum Call {
 }
 
 impl Call {
-    /// What is explained of the same bytes. None for a walk, for a capture and for what is written.
+    /// What is explained of the same bytes. None for a walk, a capture, a dump and what is written.
     pub fn explained(self) -> Option<Explained> {
         match self {
             Call::Read(reader) | Call::Why(reader) => Some(Explained::Read(reader)),
@@ -95,6 +96,7 @@ impl Call {
             Call::Explain(_) => "explain",
             Call::Walk36 => "walk36",
             Call::Pcap => "pcap",
+            Call::Scan => "scan",
             Call::Response => "response",
             Call::Data { .. } => "data",
             Call::Request { .. } => "request",
@@ -121,6 +123,7 @@ pub fn parse(line: &[u8], bytes: &mut Vec<u8>) -> Option<Call> {
         b"explain" => Call::Explain(explained(words.next()?)?),
         b"walk36" => Call::Walk36,
         b"pcap" => Call::Pcap,
+        b"scan" => Call::Scan,
         b"response" => Call::Response,
         b"data" => Call::Data {
             size: size(words.next()?)?,
@@ -162,7 +165,7 @@ fn number(word: &[u8]) -> Option<usize> {
 pub fn push(out: &mut Vec<u8>, call: Call, bytes: &[u8]) {
     out.extend_from_slice(call.word().as_bytes());
     match call {
-        Call::Read(_) | Call::Why(_) | Call::Walk36 | Call::Pcap | Call::Response => {}
+        Call::Read(_) | Call::Why(_) | Call::Walk36 | Call::Pcap | Call::Scan | Call::Response => {}
         Call::Explain(kind) => {
             out.push(b' ');
             out.extend_from_slice(kind.word().as_bytes());

@@ -73,6 +73,9 @@ const CAPTURES: [&str; 2] = [
      {00 00 00 01 00 00 00 02 00 00 00 01 00 00 00 01}A{00*16}",
 ];
 
+/// Rubbish, a frame that has a frame inside and top bits in its length, and a frame of unknown identifier.
+const DUMP: &str = "{AA 00}{AA F0 08 00 31}{AA 00 02 00 71 55}{55}{AA 00 02 55 AA 55}";
+
 pub fn lines(out: &mut Vec<u8>) -> Result<(), String> {
     for text in cases::RECORDED {
         for entry in cases::entries(text)? {
@@ -88,6 +91,7 @@ pub fn lines(out: &mut Vec<u8>) -> Result<(), String> {
     event_ends(out)?;
     field_flaws(out);
     captures(out)?;
+    dumps(out)?;
     sample_by_class(out);
     sample(out);
     Ok(())
@@ -186,6 +190,20 @@ fn captures(out: &mut Vec<u8>) -> Result<(), String> {
     Ok(())
 }
 
+/// Every beginning of a dump, and the whole with another byte at each place.
+fn dumps(out: &mut Vec<u8>) -> Result<(), String> {
+    let mut bytes = bytes_of(DUMP)?;
+    push_heading(out, "# A dump, cut after each byte");
+    (0..=bytes.len()).for_each(|size| record::push(out, Call::Scan, &bytes[..size]));
+    push_heading(out, "# The same with one bit changed in each byte");
+    for at in 0..bytes.len() {
+        bytes[at] ^= 1;
+        record::push(out, Call::Scan, &bytes);
+        bytes[at] ^= 1;
+    }
+    Ok(())
+}
+
 fn bytes_of(text: &str) -> Result<Vec<u8>, String> {
     cases::bytes(text).ok_or_else(|| format!("no bytes: {text}"))
 }
@@ -223,6 +241,7 @@ fn sample_by_class(out: &mut Vec<u8>) {
         ("why", "the questions that ask why"),
         ("explain", "the questions that ask explain"),
         ("pcap", "captures"),
+        ("scan", "dumps"),
     ];
     let fewer = fewer.map(|(word, what)| (word, what, take(&mut found, word)));
     for (label, kept) in found {
@@ -248,8 +267,8 @@ fn take(found: &mut Found, word: &str) -> Found {
     taken
 }
 
-/// The questions that ask why, or to explain, share most classes with the plain ones, and of captures the
-/// lines above have many. One line of each class that is still missing is enough.
+/// The questions that ask why, or to explain, share most classes with the plain ones, and of captures and
+/// dumps the lines above have many. One line of each class that is still missing is enough.
 fn push_new_classes(out: &mut Vec<u8>, word: &str, what: &str, found: Found) {
     let mut answerer = Answerer::default();
     let above = out.split(|&b| b == b'\n').filter(|line| line.starts_with(word.as_bytes()));

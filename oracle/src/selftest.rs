@@ -4,7 +4,9 @@ use crate::answer::{self, Answerer, Outcome};
 use crate::classes::{self, Counts};
 use crate::judged::w26x::at_protocol::AtPacketError;
 use crate::judged::w26x::edm_protocol::{EdmPacket, EdmPacketError, EDM_PACKET_WIRE_OVERHEAD};
-use crate::{capture_slips, cases, differences, generate, reach, record, recorded, rust, slips};
+use crate::{
+    capture_slips, cases, differences, generate, reach, record, recorded, rust, scan_slips, slips,
+};
 
 /// Enough draws for every class, and quick.
 const DRAWN: usize = 600_000;
@@ -15,9 +17,11 @@ pub fn run() -> Result<bool, String> {
     for text in cases::RECORDED.into_iter().chain([cases::LONG]) {
         amiss += wrong_answers(text)?;
     }
-    let typed = typed()?;
-    amiss += slips::not_noticed("the cases", &typed);
-    amiss += capture_slips::not_noticed("the cases", &typed);
+    let short = typed(&cases::RECORDED)?;
+    amiss += slips::not_noticed("the cases", &short);
+    amiss += capture_slips::not_noticed("the cases", &short);
+    amiss += scan_slips::not_noticed("the cases", &short) + scan_slips::silent(&short);
+    amiss += scan_slips::limit_not_noticed("the cases", &typed(&[cases::LONG])?);
     let mut list = Vec::new();
     recorded::lines(&mut list)?;
     amiss += not_covered("the recorded list", &list);
@@ -25,6 +29,7 @@ pub fn run() -> Result<bool, String> {
     let mut drawn = Vec::new();
     (0..DRAWN).for_each(|_| maker.line(&mut drawn));
     amiss += not_covered("the generator", &drawn);
+    amiss += scan_slips::limit_not_noticed("the generator", &drawn);
     println!("selftest: {amiss} amiss");
     Ok(amiss == 0)
 }
@@ -60,10 +65,10 @@ fn wrong_answers(text: &'static str) -> Result<usize, String> {
     Ok(wrong)
 }
 
-/// The questions of the cases alone.
-fn typed() -> Result<Vec<u8>, String> {
+/// The questions of these cases alone.
+fn typed(texts: &[&'static str]) -> Result<Vec<u8>, String> {
     let mut questions = Vec::new();
-    for text in cases::RECORDED {
+    for text in texts {
         for entry in cases::entries(text)? {
             if let cases::Entry::Case { question, .. } = entry {
                 questions.extend_from_slice(&question);
@@ -107,12 +112,13 @@ fn is_unknown(name: &str) -> bool {
 }
 
 /// A list of questions must reach every class of answer, and ask for every flaw and show every slip in
-/// what a refusal for a field carries, and every slip with captures.
+/// what a refusal for a field carries, and every slip with captures and with dumps.
 fn not_covered(what: &str, lines: &[u8]) -> usize {
     not_reached(what, lines)
         + slips::not_asked(what, lines)
         + slips::not_noticed(what, lines)
         + capture_slips::not_noticed(what, lines)
+        + scan_slips::not_noticed(what, lines)
 }
 
 fn not_reached(what: &str, lines: &[u8]) -> usize {

@@ -70,6 +70,19 @@ const LITTLE_NUMBERS: &[&[u8]] =
 const BIG_NUMBERS: &[&[u8]] =
     &[b"\0\0\0\0", b"\0\0\0\x01", b"\0\x0F\x42\x3F", b"\0\x0F\x42\x40", b"A"];
 
+/// The ends of a frame, and bytes of the smallest lengths.
+const DUMP: &[&[u8]] = &[b"\xAA", b"\x55", b"\0", b"\x01", b"\x02"];
+
+/// Whole frames, one of them with top bits in its length and the ends of frames inside, and pieces.
+const DUMPED: &[&[u8]] = &[
+    b"\xAA\0\x02\0\x71\x55",
+    b"\xAA\xF0\x04\xAA\x55\xAA\x55\x55",
+    b"\xAA",
+    b"\xAA\0\x03",
+    b"\0\x41",
+    b"\x55",
+];
+
 pub struct Set {
     call: Call,
     before: &'static [u8],
@@ -88,7 +101,7 @@ const fn set(
     Set { call, before, symbols, longest, after }
 }
 
-pub const SETS: [Set; 50] = [
+pub const SETS: [Set; 52] = [
     set(W26, b"", MARKS, 4, b""),
     set(W26, b"\r\n", MARKS, 4, b"\r\n"),
     set(W26, b"\r\n+UUDPD", MARKS, 4, b""),
@@ -137,6 +150,8 @@ pub const SETS: [Set; 50] = [
     set(Call::Pcap, BIG.split_at(20).0, LINK_TYPE, 5, b""),
     set(Call::Pcap, LITTLE, LITTLE_NUMBERS, 6, b""),
     set(Call::Pcap, BIG, BIG_NUMBERS, 6, b""),
+    set(Call::Scan, b"", DUMP, 7, b""),
+    set(Call::Scan, b"", DUMPED, 6, b""),
     set(Call::Response, b"", MARKS, 4, b""),
     set(Call::Response, b"", WORDS, 5, b""),
     set(Call::Response, b"\r\n", WORDS, 4, b"\r\n"),

@@ -5,4 +5,5 @@ pub mod ReplyLaws
 pub mod ReplyRoom
 pub mod WalkLaws
 pub mod CaptureLaws
+pub mod DumpLaws
 pub mod WrongReplies

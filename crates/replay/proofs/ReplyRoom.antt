@@ -30,6 +30,7 @@ use Rattle.render.proofs.ResponseRoom.{response-room}
 use Rattle.render.proofs.FrameRoom.{frame-room}
 use Rattle.render.proofs.WalkRoom.{walk-room}
 use Rattle.render.proofs.CaptureRoom.{file-room}
+use Rattle.render.proofs.RangeRoom.{scan-room}
 use Rattle.render.proofs.WhyRoom.{why-26-room, why-36-room, why-binary-room, why-frame-room}
 use Rattle.render.proofs.ExplainedRoom.{explain-frame-room, explain-26-room, explain-36-room, explain-binary-room, explain-response-room}
 use Rattle.replay.specs.declared.question.Reader.{Reader}
@@ -66,6 +67,7 @@ read-room reader.Why26 s h b = omega (arith, why-26-room s)
 read-room reader.Why36 s h b = omega (arith, why-36-room s)
 read-room reader.WhyBinary s h b = omega (arith, why-binary-room s)
 read-room reader.Capture s h b = omega (arith, file-room s b (omega arith))
+read-room reader.Scan s h b = omega (arith, scan-room s 56175)
 read-room (reader.Explain x) s h b = explain-room x s h
 
 -- bytes that were written

@@ -1,6 +1,7 @@
 -- What a line asks: a word, a space, and what the word takes.
 --   frame, w26, w36, binary, walk36, response   HEX
---   whyframe, why26, why36, whybinary, pcap     HEX
+--   whyframe, why26, why36, whybinary           HEX
+--   pcap, scan                                  HEX
 --   request, again26, again36                   SIZE HEX
 --   data                                        SIZE CHANNEL HEX
 --   resend                                      SIZE
@@ -41,6 +42,7 @@ words =
     ∷ ("why36" asks kind.Read reader.Why36)
     ∷ ("whybinary" asks kind.Read reader.WhyBinary)
     ∷ ("pcap" asks kind.Read reader.Capture)
+    ∷ ("scan" asks kind.Read reader.Scan)
     ∷ ("data" asks kind.Data)
     ∷ ("request" asks kind.Write writer.Request)
     ∷ ("resend" asks kind.Resend)

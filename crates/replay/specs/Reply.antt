@@ -21,6 +21,7 @@ use Rattle.edm.specs.declared.EdmPacket.{EdmPacket}
 use Rattle.edm.specs.declared.EdmPacket.the-variants as packet
 use Rattle.writer.specs.Write as write
 use Rattle.pcap.specs.File.{readFile}
+use Rattle.scan.specs.Scan.{scanned}
 use Rattle.checks.specs.Line.{lineChecks}
 use Rattle.checks.specs.Frame.{frameChecks}
 use Rattle.checks.specs.Binary.{binaryChecks}
@@ -35,6 +36,7 @@ use Rattle.render.specs.Walk.{triedLine, walkLine}
 use Rattle.render.specs.Why.{whyLine, whyTriedLine, whyFrameLine}
 use Rattle.render.specs.Written.{wroteLine}
 use Rattle.render.specs.Capture.{runLine}
+use Rattle.render.specs.Range.{scanLine}
 use Rattle.render.specs.Explained.{explainsLine, explainsBinaryLine}
 use Rattle.replay.specs.declared.question.Reader.{Reader}
 use Rattle.replay.specs.declared.question.Reader.the-variants as reader
@@ -57,7 +59,7 @@ explainReply explained.W36 s = explainsLine (lineChecks w36 0 s) (readLine w36 0
 explainReply explained.Binary s = explainsBinaryLine (binaryChecks binaryTable 0 s) (tryRows binaryTable 0 s) (λ e. partsBy (binaryShape (length s) e) s 0)
 explainReply explained.Response s = explainsLine (responseChecks 0 s) (readResponse 0 s) (λ a. partsBy (responseShape 0 a) s 0)
 
--- the bytes s, read
+-- the bytes s, read. A list of 56,175 numbers has room for the ranges of any dump that is not too long
 abbrev pub readReply : Reader → List ℕ → List ℕ
 readReply reader.Frame s = frameLine s (readFrame s)
 readReply reader.W26 s = render.answerLine cases26 s (readLine w26 0 s)
@@ -70,6 +72,7 @@ readReply reader.Why26 s = whyLine cases26 s (readLine w26 0 s)
 readReply reader.Why36 s = whyLine cases36 s (readLine w36 0 s)
 readReply reader.WhyBinary s = whyTriedLine s (tryRows binaryTable 0 s)
 readReply reader.Capture s = runLine (readFile s)
+readReply reader.Scan s = scanLine (scanned s 56175)
 readReply (reader.Explain x) s = explainReply x s
 
 -- what was written, or the refusal, whose line is `refusal`

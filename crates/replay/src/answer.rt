@@ -1,5 +1,6 @@
 // The answer to a line.
 use crate::capture::every_record;
+use crate::dump::every_range;
 use crate::question::Explained;
 use crate::question::Question;
 use crate::question::Reader;
@@ -63,6 +64,7 @@ fn read(output: &mut [u8], place: usize, src: &[u8], reader: Reader) -> usize
             at::w36::try_parse_binary(src, 0),
         ),
         Reader::Capture => every_record(output, place, src),
+        Reader::Scan => every_range(output, place, src),
         Reader::Explain(kind) => explain(output, place, src, kind),
     }
 }

@@ -2,6 +2,7 @@
 // written for a command or an event.
 mod answer;
 mod capture;
+mod dump;
 mod question;
 mod session;
 mod walk;

@@ -23,6 +23,7 @@ pub(crate) enum Reader {
     Why36,
     WhyBinary,
     Capture,
+    Scan,
     Explain(Explained),
 }
 
@@ -102,15 +103,25 @@ fn kind_of(name: &[u8]) -> Kind
     if same(name, b"whybinary") {
         return Kind::Read(Reader::WhyBinary);
     }
+    file_kind_of(name)
+}
+
+// The words for bytes that hold many frames.
+fn file_kind_of(name: &[u8]) -> Kind
+    ensures { λ r. ⌜ r ≡ kindOf (drop 10 words) (now (name .entry)) ⌝ }
+{
     if same(name, b"pcap") {
         return Kind::Read(Reader::Capture);
+    }
+    if same(name, b"scan") {
+        return Kind::Read(Reader::Scan);
     }
     writing_kind_of(name)
 }
 
 // The words that take more than bytes.
 fn writing_kind_of(name: &[u8]) -> Kind
-    ensures { λ r. ⌜ r ≡ kindOf (drop 11 words) (now (name .entry)) ⌝ }
+    ensures { λ r. ⌜ r ≡ kindOf (drop 12 words) (now (name .entry)) ⌝ }
 {
     if same(name, b"data") {
         return Kind::Data;

@@ -21,6 +21,9 @@ const NOT_EXPLAINED: &str = "NOT EXPLAINED";
 /// The crate reads no captures.
 const NO_CAPTURES: &str = "NO CAPTURES";
 
+/// The crate scans no dumps.
+const NO_DUMPS: &str = "NO DUMPS";
+
 /// Refusals from this number on are those of a line, which a frame wraps.
 const FIRST_OF_A_LINE: u8 = 11;
 
@@ -29,9 +32,10 @@ pub fn answer(call: Call, bytes: &[u8], bed: &mut Vec<u8>, out: &mut Vec<u8>) ->
     match call {
         Call::Read(reader) => plain(reader, bytes, out),
         Call::Why(reader) => carrying(reader, bytes, out),
-        // The generator asks neither of the crate (`Maker::for_crate`).
+        // The generator asks none of these of the crate (`Maker::for_crate`).
         Call::Explain(_) => Err(NOT_EXPLAINED),
         Call::Pcap => Err(NO_CAPTURES),
+        Call::Scan => Err(NO_DUMPS),
         Call::Walk36 => walk(bytes, out),
         Call::Response => response(bytes, out),
         Call::Data { size, channel } => {

@@ -4,6 +4,7 @@ mod aimed;
 mod binary;
 mod captures;
 mod damage;
+mod dumps;
 mod events;
 mod frames;
 mod long;
@@ -25,7 +26,8 @@ const WHY: usize = 6;
 /// And one in this many of those that can be explained is explained.
 const EXPLAIN: usize = 4;
 
-/// One line in this many is a capture.
+/// One line in this many is a dump, and one of the others in this many a capture.
+const DUMP: usize = 32;
 const CAPTURE: usize = 16;
 
 /// Up to two things in which a line or frame departs from a good one. Most lines have none, so that
@@ -50,11 +52,15 @@ impl Flaws {
     }
 }
 
-/// Captures have random numbers of their own, so that the other lines of a seed are the same with and
-/// without them.
+/// Sets the random numbers of dumps apart from those of captures and of other lines.
+const DUMPS_APART: u64 = 0xAA55_AA55;
+
+/// Captures and dumps have random numbers of their own, so that the other lines of a seed are the same
+/// with and without them.
 pub struct Maker {
     rng: Rng,
     captures: Option<Rng>,
+    dumps: Option<Rng>,
     bytes: Vec<u8>,
     explains: bool,
 }
@@ -62,19 +68,27 @@ pub struct Maker {
 impl Maker {
     pub fn new(seed: u64) -> Maker {
         let captures = Some(Rng::new(!seed));
-        Maker { rng: Rng::new(seed), captures, bytes: Vec::new(), explains: true }
+        let dumps = Some(Rng::new(seed ^ DUMPS_APART));
+        Maker { rng: Rng::new(seed), captures, dumps, bytes: Vec::new(), explains: true }
     }
 
-    /// The same inputs without what the crate does not have: captures, and a word that explains.
+    /// The same inputs without what the crate does not have: captures, dumps, and a word that explains.
     #[cfg(feature = "archive")]
     pub fn for_crate(seed: u64) -> Maker {
-        Maker { captures: None, explains: false, ..Maker::new(seed) }
+        Maker { captures: None, dumps: None, explains: false, ..Maker::new(seed) }
     }
 
     /// Appends one record line.
     pub fn line(&mut self, out: &mut Vec<u8>) {
         let (rng, bytes) = (&mut self.rng, &mut self.bytes);
         bytes.clear();
+        // Before captures are drawn, so that those too are the same without dumps.
+        if let Some(rng) = &mut self.dumps {
+            if rng.one_in(DUMP) {
+                dumps::dump(rng, bytes);
+                return record::push(out, Call::Scan, bytes);
+            }
+        }
         if let Some(rng) = &mut self.captures {
             if rng.one_in(CAPTURE) {
                 captures::file(rng, bytes);

@@ -37,7 +37,10 @@ returns-11 : tie.Need-returns-11
 returns-11 c = rw (c .before .before .before .before .enum-told11 .given .1) (c .before .before .every-record .ensures)
 
 returns-12 : tie.Need-returns-12
-returns-12 c = rw (c .before .before .before .before .before .reader .given .1) (c .before .before .explain .ensures)
+returns-12 c = rw (c .before .before .before .before .enum-told12 .given .1) (c .before .before .every-range .ensures)
+
+returns-13 : tie.Need-returns-13
+returns-13 c = rw (c .before .before .before .before .before .reader .given .1) (c .before .before .explain .ensures)
 
 pub read-spec : {M : Type 1} → statement M
 read-spec =
@@ -77,6 +80,8 @@ read-spec =
     (λ c. search needs)
     (λ c κs. search needs)
     (λ c. search needs)
+    (λ c κs. search needs)
+    (λ c. search needs)
     returns
     (λ c. search needs)
     returns-2
@@ -99,4 +104,6 @@ read-spec =
     (λ c. search needs)
     returns-11
     (λ c. search needs)
-    returns-12)
+    returns-12
+    (λ c. search needs)
+    returns-13)

@@ -83,13 +83,6 @@ past10 : (c : tie.Else10) → Past 10 (name10 c)
 unfolding words
 past10 c = past9 (c .before .before .before) ∙ other-word _ _ _ _ (c .before .same10 .ensures) (c .if10 .left)
 
-abbrev name11 : tie.Else11 → List ℕ
-name11 c = name10 (c .before .before .before)
-
-past11 : (c : tie.Else11) → Past 11 (name11 c)
-unfolding words
-past11 c = past10 (c .before .before .before) ∙ other-word _ _ _ _ (c .before .same11 .ensures) (c .if11 .left)
-
 returns : tie.Need-returns
 unfolding words
 returns c = sym (this-word _ _ _ _ (c .before .same .ensures) (c .if1 .taken))
@@ -131,11 +124,7 @@ unfolding words
 returns-10 c = sym (past9 (c .before .before .before) ∙ this-word _ _ _ _ (c .before .same10 .ensures) (c .if10 .taken))
 
 returns-11 : tie.Need-returns-11
-unfolding words
-returns-11 c = sym (past10 (c .before .before .before) ∙ this-word _ _ _ _ (c .before .same11 .ensures) (c .if11 .taken))
-
-returns-12 : tie.Need-returns-12
-returns-12 c = c .writing-kind-of .ensures ∙ sym (past11 (c .before))
+returns-11 c = c .file-kind-of .ensures ∙ sym (past10 (c .before))
 
 pub kind-of-spec : {M : Type 1} → statement M
 kind-of-spec =
@@ -171,8 +160,5 @@ kind-of-spec =
     (λ c. search needs)
     (λ c κs. search needs)
     returns-10
-    (λ c. search needs)
     (λ c κs. search needs)
-    returns-11
-    (λ c κs. search needs)
-    returns-12)
+    returns-11)

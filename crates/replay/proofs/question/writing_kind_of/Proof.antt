@@ -11,47 +11,47 @@ use Rattle.replay.proofs.question.writing_kind_of.Tie as tie
 
 -- where the name is none of the words before the word k, those from k on decide
 abbrev Past : ℕ → List ℕ → Type 0
-Past k name = kindOf (drop 11 words) name ≡ kindOf (drop k words) name
+Past k name = kindOf (drop 12 words) name ≡ kindOf (drop k words) name
 
 abbrev name1 : tie.Else1 → List ℕ
 name1 c = c .before .before .before .before .args .name .now
 
-past1 : (c : tie.Else1) → Past 12 (name1 c)
+past1 : (c : tie.Else1) → Past 13 (name1 c)
 unfolding words
 past1 c = other-word _ _ _ _ (c .before .same .ensures) (c .if1 .left)
 
 abbrev name2 : tie.Else2 → List ℕ
 name2 c = name1 (c .before .before .before)
 
-past2 : (c : tie.Else2) → Past 13 (name2 c)
+past2 : (c : tie.Else2) → Past 14 (name2 c)
 unfolding words
 past2 c = past1 (c .before .before .before) ∙ other-word _ _ _ _ (c .before .same2 .ensures) (c .if2 .left)
 
 abbrev name3 : tie.Else3 → List ℕ
 name3 c = name2 (c .before .before .before)
 
-past3 : (c : tie.Else3) → Past 14 (name3 c)
+past3 : (c : tie.Else3) → Past 15 (name3 c)
 unfolding words
 past3 c = past2 (c .before .before .before) ∙ other-word _ _ _ _ (c .before .same3 .ensures) (c .if3 .left)
 
 abbrev name4 : tie.Else4 → List ℕ
 name4 c = name3 (c .before .before .before)
 
-past4 : (c : tie.Else4) → Past 15 (name4 c)
+past4 : (c : tie.Else4) → Past 16 (name4 c)
 unfolding words
 past4 c = past3 (c .before .before .before) ∙ other-word _ _ _ _ (c .before .same4 .ensures) (c .if4 .left)
 
 abbrev name5 : tie.Else5 → List ℕ
 name5 c = name4 (c .before .before .before)
 
-past5 : (c : tie.Else5) → Past 16 (name5 c)
+past5 : (c : tie.Else5) → Past 17 (name5 c)
 unfolding words
 past5 c = past4 (c .before .before .before) ∙ other-word _ _ _ _ (c .before .same5 .ensures) (c .if5 .left)
 
 abbrev name6 : tie.Else6 → List ℕ
 name6 c = name5 (c .before .before .before)
 
-past6 : (c : tie.Else6) → Past 17 (name6 c)
+past6 : (c : tie.Else6) → Past 18 (name6 c)
 unfolding words
 past6 c = past5 (c .before .before .before) ∙ other-word _ _ _ _ (c .before .same6 .ensures) (c .if6 .left)
 
