@@ -1,4 +1,5 @@
-"""wireshark.py: holds the captures of ./run capture, and the dissector for Wireshark, to tshark, capinfos and editcap.
+"""wireshark.py: holds the captures of ./run capture and of ./run dump --pcap, and the dissector for Wireshark, to tshark,
+capinfos and editcap.
 
 It is run by tests/wireshark, from the project's root. Status: 0 where all is as expected, 1 where something is not.
 """
@@ -12,6 +13,8 @@ import sys
 import tempfile
 
 sys.dont_write_bytecode = True
+from dump_model import is_utf8, ranges, records
+from fixture_dump import fixture_dump
 from judge_cases import judge_cases
 
 DISSECTOR = "crates/capture/wireshark/edm.lua"
@@ -30,6 +33,11 @@ TYPED = [
     "1700000000.123456 aa0fff003103" + (bytes(range(256)) * 16)[:4092].hex() + "55",
     "4294967295.999999 aa55",
 ]
+
+# Three frames between rubbish: after a 55, after AA that is no start, and after so many zeros that the time has seconds.
+DUMP = bytes.fromhex("0055 aa0002007155 aa00ff aa00040036034155").ljust(2500000, b"\x00")
+DUMP += bytes.fromhex("aa000300210755 aa")
+DUMPED = ["0.000002 aa0002007155", "0.000011 aa00040036034155", "2.500000 aa000300210755"]
 
 differences = 0
 
@@ -166,6 +174,26 @@ def hold_captures(folder):
             hold("the capture that editcap wrote, byte for byte", other.read().hex(), one.read().hex())
 
 
+def dumped(path, dump):
+    """The capture of the kept frames of a dump."""
+    done = subprocess.run(["./run", "dump", "--pcap"], input=dump, capture_output=True, timeout=120)
+    hold("./run dump --pcap, report and status", (b"", 0), (done.stderr, done.returncode))
+    return save(path, done.stdout)
+
+
+def hold_dumps(folder):
+    """The captures that ./run dump writes of the typed dump and of the fixture."""
+    fixture = fixture_dump()
+    kept = records(fixture, ranges(fixture))
+    found = [line_of(f"{seconds}.{microseconds:06}", frame) for seconds, microseconds, frame in kept]
+    for name, dump, lines in ("dump.pcap", DUMP, DUMPED), ("fixture.pcap", fixture, found):
+        path = dumped(os.path.join(folder, name), dump)
+        hold_capinfos(path, len(lines))
+        stop_at_differences()  # packets that should not be there may be too many for tshark's time
+        hold_packets(path, lines)
+    return len(DUMPED) + len(found)
+
+
 def recorded_frames():
     """The frames that replay is asked about, and the answer that the Rust gave."""
     with open("crates/replay/stdin", encoding="latin-1", newline="\n") as asked:
@@ -177,14 +205,6 @@ def recorded_frames():
             frame = frame_from("".join(digits.split()))
             if len(frame) <= LONGEST:
                 yield frame, answer.rstrip("\n")
-
-
-def is_utf8(content):
-    try:
-        content.decode()
-    except UnicodeDecodeError:
-        return False
-    return True
 
 
 def requests_at_edges():
@@ -332,8 +352,14 @@ def hold_dissector(folder):
     return len(frames)
 
 
-with tempfile.TemporaryDirectory() as folder:
-    hold_captures(folder)
-    count = hold_dissector(folder)
-stop_at_differences()
-print(f"tshark and capinfos: {len(TYPED)} packets and {count} frames as expected")
+def main():
+    with tempfile.TemporaryDirectory() as folder:
+        hold_captures(folder)
+        kept = hold_dumps(folder)
+        count = hold_dissector(folder)
+    stop_at_differences()
+    print(f"tshark and capinfos: {len(TYPED)} packets, {kept} frames kept of dumps and {count} frames as expected")
+
+
+if __name__ == "__main__":
+    main()

@@ -1,0 +1,5 @@
+pub mod PutLaws
+pub mod WindowLaws
+pub mod StandsLaws
+pub mod GoesOnLaws
+pub mod Examples
