@@ -12,24 +12,14 @@ import sys
 import time
 
 sys.dont_write_bytecode = True
+from comparisons import Comparisons
 from judge_cases import judge_cases
 
 LONGEST_FRAME = 4099
 LONGEST_LINE = 65536
-SHOWN = 10  # differences
 
-comparisons = 0
-differences = 0
-
-
-def hold(what, expected, came):
-    global comparisons, differences
-    comparisons += 1
-    if came == expected:
-        return
-    differences += 1
-    if differences <= SHOWN:
-        print(f"captures: {what}\n    expected {str(expected)[-400:]}\n    came     {str(came)[-400:]}")
+held = Comparisons("captures", slice(-400, None))
+hold = held.hold
 
 
 # The model of the format
@@ -284,7 +274,5 @@ hold_meanings()
 hold_lines()
 hold_generated()
 hold_faults()
-if differences:
-    print(f"captures: {differences} of {comparisons} comparisons not as expected, of which up to {SHOWN} are shown")
-    sys.exit(1)
-print(f"captures: {comparisons} comparisons as expected")
+print(f"captures: {held.verdict()}")
+sys.exit(1 if held.differences else 0)

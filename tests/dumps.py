@@ -14,6 +14,7 @@ import tempfile
 import time
 
 sys.dont_write_bytecode = True
+from comparisons import Comparisons
 from dump_model import meaning, ranges, records, total_line
 from fixture_dump import SHA256, Chance, fixture_dump, frame, noisy_dump, sum_of
 
@@ -21,7 +22,6 @@ WINDOW = 65536
 CARRIED = 4098
 LONGEST = 4099
 ADVANCE = WINDOW - CARRIED  # how far a window goes on that carries as much as it may
-SHOWN = 10  # differences
 
 START = frame(0x71, b"")
 LARGEST = frame(0x31, b"\x03" + START * 682)
@@ -29,19 +29,9 @@ assert len(LARGEST) == LONGEST
 BROKEN = LARGEST[:-1] + b"\x54"  # no frame, so the start events in it are found
 CUT = LARGEST[:-1]
 
-comparisons = 0
-differences = 0
+held = Comparisons("dumps")
+hold = held.hold
 meanings_left_out = 0
-
-
-def hold(what, expected, came):
-    global comparisons, differences
-    comparisons += 1
-    if came == expected:
-        return
-    differences += 1
-    if differences <= SHOWN:
-        print(f"dumps: {what}\n    expected {str(expected)[:400]}\n    came     {str(came)[:400]}")
 
 
 def hold_rows(what, expected, came):
@@ -269,8 +259,5 @@ hold_stretches()
 hold_seconds()
 hold_generated()
 hold_late_fault()
-left_out = f"; of {meanings_left_out} frames the model has ranges and bytes alone, not the meaning"
-if differences:
-    print(f"dumps: {differences} of {comparisons} comparisons not as expected, of which up to {SHOWN} are shown{left_out}")
-    sys.exit(1)
-print(f"dumps: {comparisons} comparisons as expected{left_out}")
+print(f"dumps: {held.verdict()}; of {meanings_left_out} frames the model has ranges and bytes alone, not the meaning")
+sys.exit(1 if held.differences else 0)

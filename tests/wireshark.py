@@ -13,6 +13,7 @@ import sys
 import tempfile
 
 sys.dont_write_bytecode = True
+from comparisons import Comparisons
 from dump_model import is_utf8, ranges, records
 from fixture_dump import fixture_dump
 from judge_cases import judge_cases
@@ -21,7 +22,6 @@ DISSECTOR = "crates/capture/wireshark/edm.lua"
 LONGEST = 4099
 COLUMN = 4095  # the bytes that Wireshark keeps of a column
 GENERATED = 3000
-SHOWN = 10  # differences
 
 # A time and a frame each, as ./run capture takes and prints them: the first second, the last microsecond of a second, an
 # empty frame, two bytes that are no packet, the longest frame, and the last second.
@@ -39,16 +39,8 @@ DUMP = bytes.fromhex("0055 aa0002007155 aa00ff aa00040036034155").ljust(2500000,
 DUMP += bytes.fromhex("aa000300210755 aa")
 DUMPED = ["0.000002 aa0002007155", "0.000011 aa00040036034155", "2.500000 aa000300210755"]
 
-differences = 0
-
-
-def hold(what, expected, came):
-    global differences
-    if came == expected:
-        return
-    differences += 1
-    if differences <= SHOWN:
-        print(f"wireshark: {what}\n    expected {str(expected)[:300]}\n    came     {str(came)[:300]}")
+held = Comparisons("wireshark", slice(300))
+hold = held.hold
 
 
 def hold_each(what, expected, came):
@@ -63,8 +55,8 @@ def stop(words):
 
 
 def stop_at_differences():
-    if differences:
-        stop(f"not as expected: {differences}, of which up to {SHOWN} are shown")
+    if held.differences:
+        stop(held.verdict())
 
 
 def text(printed):
