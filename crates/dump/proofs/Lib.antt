@@ -2,4 +2,5 @@ pub mod PutLaws
 pub mod WindowLaws
 pub mod StandsLaws
 pub mod GoesOnLaws
+pub mod WrongPrograms
 pub mod Examples

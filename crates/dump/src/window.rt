@@ -50,7 +50,14 @@ fn keep(output: &mut [u8], form: Form, place: usize, frame: &[u8], d: Dumping) -
 }
 
 // The first `n` bytes of a range, which are decided.
-fn report(output: &mut [u8], form: Form, src: &[u8], range: Listed, n: usize, d: Dumping) -> Dumping
+pub(crate) fn report(
+    output: &mut [u8],
+    form: Form,
+    src: &[u8],
+    range: Listed,
+    n: usize,
+    d: Dumping,
+) -> Dumping
     requires { ⌜ (131072 ≤ length (now output)) × (range .kept ≡ true → n ≤ 4099) ⌝ }
     ensures { λ r. ⌜ Reports form (now (src .entry)) range n d (now (output .entry)) r (now (output .exit)) ⌝ }
 {

@@ -2,7 +2,7 @@
 use Prim.Native.Nat.{ℕ, zero, suc, _+_, _*_, _≤_, _<_}
 use mathlib.Core.Path.{_≡_, refl, sym, ap, _∙_}
 use mathlib.Core.List.{List, [], _∷_, _++_}
-use mathlib.Core.Bool.{Bool, true, false}
+use mathlib.Core.Bool.{Bool, true, false, false≢true}
 use native.Mathlib.Omega.{arith}
 use native.Mathlib.Nat.{add-zero, zero-add}
 use lib.Dec.{eqb}
@@ -115,18 +115,18 @@ skipped-fails (b ∷ s) (suc j) h =
 -- the bytes of a range that is kept, and of one that is skipped
 kept-leads : (p : Piece) (s : List ℕ) → Leads p s → eqb (mark p) 1 ≡ true → passes (run s) ≡ true
 kept-leads (kept t) s l e = l .0
-kept-leads (skipped t) s l e = let z : false ≡ true = e in absurd (let y : _≡_ {A = ℕ} 0 1 = cc in omega arith)
+kept-leads (skipped t) s l e = absurd (false≢true e)
 
 kept-long : (p : Piece) (s : List ℕ) → Leads p s → eqb (mark p) 1 ≡ true → length (run s) ≡ length (text p)
 kept-long (kept t) s l e = ap length (sym (l .1))
-kept-long (skipped t) s l e = let z : false ≡ true = e in absurd (let y : _≡_ {A = ℕ} 0 1 = cc in omega arith)
+kept-long (skipped t) s l e = absurd (false≢true e)
 
 skipped-long : (p : Piece) (s : List ℕ) → Leads p s → eqb (mark p) 1 ≡ false → length (text p) ≡ skippedLength s
-skipped-long (kept t) s l e = let z : true ≡ false = e in absurd (let y : _≡_ {A = ℕ} 0 1 = cc in omega arith)
+skipped-long (kept t) s l e = absurd (false≢true (sym e))
 skipped-long (skipped t) s l e = ap length (l .1) ∙ length-take-le (skippedLength s) s (skips-within s)
 
 skips-here : (p : Piece) (s : List ℕ) → Leads p s → eqb (mark p) 1 ≡ false → 0 < skippedLength s
-skips-here (kept t) s l e = let z : true ≡ false = e in absurd (let y : _≡_ {A = ℕ} 0 1 = cc in omega arith)
+skips-here (kept t) s l e = absurd (false≢true (sym e))
 skips-here (skipped t) s l e = l .0
 
 -- the ranges meet, from the first byte to the last
@@ -163,10 +163,10 @@ from-range (p ∷ ps) (suc i) h = from-range ps i (omega arith)
 -- the frames among them
 pub frames-kept : (p : Piece) (ps : List Piece) → eqb (mark p) 1 ≡ true → frames (p ∷ ps) ≡ text p ∷ frames ps
 frames-kept (kept t) ps e = refl
-frames-kept (skipped t) ps e = let z : false ≡ true = e in absurd (let y : _≡_ {A = ℕ} 0 1 = cc in omega arith)
+frames-kept (skipped t) ps e = absurd (false≢true e)
 
 pub frames-skipped : (p : Piece) (ps : List Piece) → eqb (mark p) 1 ≡ false → frames (p ∷ ps) ≡ frames ps
-frames-skipped (kept t) ps e = let z : true ≡ false = e in absurd (let y : _≡_ {A = ℕ} 0 1 = cc in omega arith)
+frames-skipped (kept t) ps e = absurd (false≢true (sym e))
 frames-skipped (skipped t) ps e = refl
 
 -- a row that is range k of a dump

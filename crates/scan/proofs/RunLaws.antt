@@ -4,7 +4,7 @@ use Prim.Native.Nat.{ℕ, _+_, _-_, _≤_, _<_}
 use mathlib.Core.Path.{_≡_, refl, sym, ap, _∙_}
 use mathlib.Core.Logic.{_⊎_, inl, inr}
 use mathlib.Core.List.{List}
-use mathlib.Core.Bool.{Bool, true, false, cond, not, _&&_}
+use mathlib.Core.Bool.{Bool, true, false, cond, not, _&&_, false≢true}
 use native.Mathlib.Omega.{arith}
 use native.Mathlib.Nat.{min-le-right}
 use lib.Dec.{eqb, leb, ltb}
@@ -32,9 +32,9 @@ reads-on t e = go (delimited t) (ltb (length t) 6) (eqb (lengthField t) (length 
   where
     go : (d l m : Bool) (o : OrRefused Packet) → d && not l && m ≡ true → cond d (cond l (refused (no 2)) (cond m o (refused (no 3)))) (refused (no 1)) ≡ o
     go true false true o e = refl
-    go true false false o e = let z : _≡_ {A = Bool} false true = e in cc
-    go true true m o e = let z : _≡_ {A = Bool} false true = e in cc
-    go false l m o e = let z : _≡_ {A = Bool} false true = e in cc
+    go true false false o e = absurd (false≢true e)
+    go true true m o e = absurd (false≢true e)
+    go false l m o e = absurd (false≢true e)
 
 -- and what does not pass is refused with one of them
 pub reads-not : (t : List ℕ) → passes t ≡ false → (readFrame t ≡ refused (no 1)) ⊎ ((readFrame t ≡ refused (no 2)) ⊎ (readFrame t ≡ refused (no 3)))

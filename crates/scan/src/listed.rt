@@ -9,7 +9,7 @@ pub struct Listed {
     pub kept: bool,
 }
 
-// A range that is kept, and the number of the range after it.
+// A range that is kept, whose bytes are `text::bytes::part(dump, start, len)`, and the number of the range after it.
 pub enum KeptStep {
     Kept {
         start: usize,

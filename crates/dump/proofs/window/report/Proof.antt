@@ -1,7 +1,6 @@
 -- `window::report` meets its contract. Assumes nothing.
-use Prim.Native.Nat.{ℕ}
-use mathlib.Core.Path.{_≡_, refl, sym, _∙_}
-use mathlib.Core.Bool.{true, false}
+use mathlib.Core.Path.{refl, sym, _∙_}
+use mathlib.Core.Bool.{false≢true}
 use native.Mathlib.Omega.{arith}
 use denote.Ref.{now}
 use Rattle.dump.proofs.WindowLaws.{part-few}
@@ -24,7 +23,7 @@ returns c =
     record {
       leads = rw is-kept (rw (far .before .before .wrapping-add-usize .ensures, frame) at (kept .0));
       puts = λ k. rw (far .wrapping-add-usize2 .ensures, frame) at (kept .1);
-      waits = λ k. let z : true ≡ false = sym is-kept ∙ k in absurd (let w : _≡_ {A = ℕ} 0 1 = cc in omega arith);
+      waits = λ k. absurd (false≢true (sym k ∙ is-kept));
     }
 
 returns-2 : tie.Need-returns-2
@@ -32,7 +31,7 @@ returns-2 c =
     let is-skipped = c .before .before .if1 .left in
     record {
       leads = rw (is-skipped, c .before .before .before .wrapping-add-usize .ensures, c .before .wrapping-add-usize3 .ensures, c .count-skipped .ensures);
-      puts = λ k. let z : true ≡ false = sym k ∙ is-skipped in absurd (let w : _≡_ {A = ℕ} 0 1 = cc in omega arith);
+      puts = λ k. absurd (false≢true (sym is-skipped ∙ k));
       waits = λ k. (refl, refl);
     }
 
