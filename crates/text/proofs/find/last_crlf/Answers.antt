@@ -1,0 +1,26 @@
+use Prim.Native.Nat.{◌≤◌}
+use lib.ListN.{length}
+use Rattle.text.proofs.FindLaws.{below_yes, below_no, below_end}
+use Rattle.text.specs.Find.{crlf, last_of, last_below}
+use native.Mathlib.Omega.{arith}
+use mathlib.Core.Path.{◌≡◌, refl, sym, ◌∙◌}
+use Rattle.text.proofs.find.last_crlf.Goals as goal
+
+pub loop-i-init : goal.loop-i-init
+unfolding last_of
+loop-i-init c = (omega arith, refl)
+
+pub crlf_at-requires : goal.crlf_at-requires
+crlf_at-requires c = omega arith
+
+pub returns-then-crlf_at : goal.returns-then-crlf_at
+returns-then-crlf_at c = sym (c.loop-i.invariant.1 ∙ below_yes crlf c.args.s.now c.loop-i.i (omega arith) (sym c.crlf_at.ensures ∙ c.if-crlf_at.true))
+
+pub loop-i-smaller : goal.loop-i-smaller
+loop-i-smaller c = omega arith
+
+pub loop-i-preserved : goal.loop-i-preserved
+loop-i-preserved c = (omega arith, c.loop-i.invariant.1 ∙ below_no crlf c.args.s.now c.loop-i.i (omega arith) (sym c.crlf_at.ensures ∙ c.if-crlf_at.false))
+
+pub returns : goal.returns
+returns c = sym (c.loop-i.invariant.1 ∙ below_end crlf c.args.s.now c.loop-i.i c.loop-i-test.false)

@@ -1,0 +1,13 @@
+use Prim.Native.Nat.{◌≤◌}
+use lib.ListN.{length}
+use Rattle.text.proofs.FindLaws.{below_yes, below_no, below_end}
+use Rattle.text.specs.Find.{crlf, last_of, last_below}
+use native.Mathlib.Omega.{arith}
+use mathlib.Core.Path.{◌≡◌, refl, sym, ◌∙◌}
+use Rattle.text.proofs.find.last_crlf.Given as goal
+
+abbrev pub invariant-loop-i : goal.invariant-loop-i
+invariant-loop-i l = (l.i ≤ length l.s) × (last_of crlf l.s ≡ last_below crlf l.s l.i)
+
+abbrev pub decreases-loop-i : goal.decreases-loop-i
+decreases-loop-i l = l.i

@@ -1,0 +1,12 @@
+use Rattle.text.proofs.SkimLaws.{stays, onward, past_one, past_two, past_three, past_four}
+use Rattle.text.specs.Skim.{WellFormed}
+use borrow.Author.Tests.{not-false}
+use native.Mathlib.Omega.{arith}
+use Prim.Native.Nat.{◌-◌}
+use Rattle.text.proofs.skim.past_sequences.Given as goal
+
+abbrev pub invariant-loop-i : goal.invariant-loop-i
+invariant-loop-i l = WellFormed l.s l.from l.i
+
+abbrev pub decreases-loop-i : goal.decreases-loop-i
+decreases-loop-i l = l.stop - l.i
