@@ -12,7 +12,7 @@ use at::parts::{Parts, Value};
 use at::table::kinds_at;
 
 // The event that a row is, or the number of the refusal.
-#[derive(Drop)]
+#[derive(Clone, Copy)]
 pub(crate) enum Given {
     Event(Parts),
     Refused(u8),

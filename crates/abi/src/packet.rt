@@ -84,7 +84,7 @@ pub(crate) fn put_packet(row: &mut [u64], p: EdmPacket)
 }
 
 // The packet that a row is, or the number of the refusal.
-#[derive(Drop)]
+#[derive(Clone, Copy)]
 pub(crate) enum Command {
     Packet(EdmPacket),
     Refused(u8),

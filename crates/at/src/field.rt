@@ -14,14 +14,14 @@ use text::number::{Number8, Number16, Number32, read8, read16, read32};
 use text::walk::field_at;
 
 // A field that was taken: a number, or the place and the length of a text.
-#[derive(Drop)]
+#[derive(Clone, Copy)]
 pub(crate) struct Field {
     pub value: usize,
     pub len: usize,
 }
 
 // What one field is read as, whichever field it is.
-#[derive(Drop)]
+#[derive(Clone, Copy)]
 enum FieldAnswer {
     Got(Field),
     Unsupported,
@@ -130,7 +130,7 @@ fn field_of(kind: u8, start: usize, field: &[u8]) -> FieldAnswer
 }
 
 // Whether a row's fields were all taken, or what stopped it.
-#[derive(Drop)]
+#[derive(Clone, Copy)]
 pub(crate) enum Stop {
     Nowhere,
     Refused(AtPacketError),
@@ -145,7 +145,7 @@ fn counted(i: usize) -> u8
 }
 
 // A row and its fields, in their order.
-#[derive(Drop)]
+#[derive(Clone, Copy)]
 pub(crate) struct Taken {
     pub row: usize,
     pub fields: [Field; 7],

@@ -6,14 +6,14 @@ ghost use Rattle.at.specs.Steps.{three_parts, five_parts};
 
 use crate::Text;
 
-#[derive(Drop)]
+#[derive(Clone, Copy)]
 pub enum Value {
     Number(u32),
     Place(Text),
 }
 
 // The first `count` of the seven are values. One after the row's fields is the data of a binary event.
-#[derive(Drop)]
+#[derive(Clone, Copy)]
 pub struct Parts {
     pub row: usize,
     pub count: usize,

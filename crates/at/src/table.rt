@@ -82,7 +82,7 @@ fn row_of(table: &[u8], name: &[u8]) -> usize
 }
 
 // The letters of a row's kinds, of which the first `count` count. They are eight, so that they are copied as one word.
-#[derive(Drop)]
+#[derive(Clone, Copy)]
 pub(crate) struct Kinds {
     pub letters: [u8; 8],
     pub count: usize,
@@ -118,7 +118,7 @@ pub(crate) fn kinds_of(table: &[u8], row: usize) -> Kinds
 }
 
 // A row, by its number, and the letters of its kinds.
-#[derive(Drop)]
+#[derive(Clone, Copy)]
 pub(crate) struct Entry {
     pub row: usize,
     pub kinds: Kinds,

@@ -17,7 +17,7 @@ use text::bytes::part;
 use text::field::Fields;
 use text::put::put;
 
-#[derive(Drop)]
+#[derive(Clone, Copy)]
 pub enum WifiLinkDisconnectedReason {
     Unknown,
     RemoteClose,
@@ -27,14 +27,14 @@ pub enum WifiLinkDisconnectedReason {
     NetworkDisabled,
 }
 
-#[derive(Drop)]
+#[derive(Clone, Copy)]
 pub enum PeerConnectedProfile {
     TCP,
     UDP,
     MQTT,
 }
 
-#[derive(Drop)]
+#[derive(Clone, Copy)]
 pub enum ATEvent {
     PeerConnectedIP {
         peer_handle: PeerHandle,
@@ -142,7 +142,7 @@ pub enum ATEvent {
 }
 
 // `past` is the place just past the event.
-#[derive(Drop)]
+#[derive(Clone, Copy)]
 pub enum EventAnswer {
     Event { event: ATEvent, past: usize },
     Refused(AtPacketError),

@@ -24,7 +24,7 @@ use text::find::{Found, first_byte};
 use text::number::{Number8, read8};
 use text::put::put;
 
-#[derive(Drop)]
+#[derive(Clone, Copy)]
 pub enum ATEvent {
     SocketConnected {
         socket_id: SocketId,
@@ -70,13 +70,13 @@ pub enum ATEvent {
 }
 
 // `past` is the place just past the event.
-#[derive(Drop)]
+#[derive(Clone, Copy)]
 pub enum EventAnswer {
     Event { event: ATEvent, past: usize },
     Refused(AtPacketError),
 }
 
-#[derive(Drop)]
+#[derive(Clone, Copy)]
 pub enum BinaryAnswer {
     Event { event: ATEvent, past: usize },
     NotBinary,

@@ -10,7 +10,7 @@ use lines::number::{Number, decimal};
 use text::bytes::part;
 use text::find::{Found, first_byte};
 
-#[derive(Drop)]
+#[derive(Clone, Copy)]
 pub(crate) enum Fault {
     NoTime,
     NoFrame,
@@ -18,7 +18,7 @@ pub(crate) enum Fault {
 }
 
 // The frame is the first `len` bytes of the buffer that the line was read into.
-#[derive(Drop)]
+#[derive(Clone, Copy)]
 pub(crate) enum Said {
     Nothing,
     Record {
@@ -29,7 +29,7 @@ pub(crate) enum Said {
     Wrong(Fault),
 }
 
-#[derive(Drop)]
+#[derive(Clone, Copy)]
 enum Stamp {
     Time { seconds: u32, microseconds: u32 },
     Nothing,

@@ -15,7 +15,7 @@ use text::bytes::part;
 const ENOUGH: usize = 4115;
 
 // How many bytes the records took up, and whether no byte was left.
-#[derive(Drop)]
+#[derive(Clone, Copy)]
 struct Found {
     used: usize,
     is_end: bool,
@@ -23,7 +23,7 @@ struct Found {
 }
 
 // A reader between two turns: the bytes at hand, the place of the first of them in the file, and whether it goes on.
-#[derive(Drop)]
+#[derive(Clone, Copy)]
 struct Reading {
     window: Window,
     place: usize,

@@ -3,7 +3,7 @@ use lines::input::{move_to_front, read_after};
 use text::bytes::part;
 
 // The bytes of a buffer from `start` up to `end` are at hand. It is open as long as more may follow them.
-#[derive(Drop)]
+#[derive(Clone, Copy)]
 pub(crate) struct Window {
     pub start: usize,
     pub end: usize,

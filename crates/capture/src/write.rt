@@ -20,7 +20,7 @@ const LONGEST: usize = 65536;
 
 // A writer between two turns: the bytes at hand, the number of the line that they begin with, whether that line is too long and its bytes are gone,
 // what is to be written, and whether it goes on.
-#[derive(Drop)]
+#[derive(Clone, Copy)]
 struct Writing {
     window: Window,
     number: u64,

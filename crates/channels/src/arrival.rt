@@ -9,7 +9,7 @@ use crate::cell::Row;
 use edm::{Channel, EdmPacket, FrameAnswer};
 use text::bytes::part;
 
-#[derive(Drop)]
+#[derive(Clone, Copy)]
 pub(crate) enum Arrival {
     Connect(Channel, Row),
     Disconnect(Channel),

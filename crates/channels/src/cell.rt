@@ -7,7 +7,7 @@ use crate::arrival::Arrival;
 
 // A channel's row: of the kind 0 it is closed, and every other number is 0. Else it is open, the kind is the type of its connect event (2 is
 // IPv4), and the rest is the remote end. The address is a number, its first byte highest; `high` has what is above 64 bits.
-#[derive(Drop)]
+#[derive(Clone, Copy)]
 pub struct Row {
     pub kind: u8,
     pub high: u64,
@@ -17,7 +17,7 @@ pub struct Row {
 
 // How often a channel was connected while it was open, disconnected while it was closed, or had data while it was closed, and how many frames
 // were refused.
-#[derive(Drop)]
+#[derive(Clone, Copy)]
 pub struct Counts {
     pub reopened: u32,
     pub reclosed: u32,
@@ -25,7 +25,7 @@ pub struct Counts {
     pub refused: u32,
 }
 
-#[derive(Drop)]
+#[derive(Clone, Copy)]
 pub(crate) struct Cell {
     pub row: Row,
     pub counts: Counts,

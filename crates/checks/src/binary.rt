@@ -23,7 +23,7 @@ use text::find::{Found, first_byte};
 use text::utf8::valid_up_to;
 
 // `past` is the place just past the event.
-#[derive(Drop)]
+#[derive(Clone, Copy)]
 pub enum BinaryExplained {
     NotBinary,
     Accepted {

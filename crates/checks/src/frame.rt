@@ -22,7 +22,7 @@ use edm::{EdmPacket, EdmPacketError, FrameAnswer};
 use text::bytes::part;
 use text::utf8::valid_up_to;
 
-#[derive(Drop)]
+#[derive(Clone, Copy)]
 pub enum FrameExplained {
     Accepted {
         packet: EdmPacket,

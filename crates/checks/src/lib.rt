@@ -12,7 +12,7 @@ pub mod w26;
 pub mod w36;
 
 // The checks of document 01 by name, in its order: of frames, of lines, of responses, of binary events. A field is counted from 1.
-#[derive(Drop)]
+#[derive(Clone, Copy)]
 pub enum CheckName {
     FrameOfTwo,
     StartByte,
@@ -45,7 +45,7 @@ pub enum CheckName {
 }
 
 // The check that does not hold, and the byte that shows it.
-#[derive(Drop)]
+#[derive(Clone, Copy)]
 pub(crate) struct Reason {
     pub check: CheckName,
     pub byte: usize,

@@ -6,7 +6,7 @@ use crate::slot::{slot_at, slot_count, span_of};
 use text::bytes::part;
 
 // What a field is. An event's fields are counted from 1.
-#[derive(Drop)]
+#[derive(Clone, Copy)]
 pub enum PartName {
     StartByte,
     Length,
@@ -28,7 +28,7 @@ pub enum PartName {
 }
 
 // What an accepted input consists of. `but` is how many bytes of the input follow the text, or the data of a binary event.
-#[derive(Drop)]
+#[derive(Clone, Copy)]
 pub enum Shape {
     Connect,
     Disconnect,
@@ -41,7 +41,7 @@ pub enum Shape {
 }
 
 // The walk stands at a place of the input, before the slot of its turn.
-#[derive(Drop)]
+#[derive(Clone, Copy)]
 pub struct PartWalk {
     pub framed: bool,
     pub shape: Shape,
@@ -50,7 +50,7 @@ pub struct PartWalk {
 }
 
 // A field of `len` bytes from `start` on, and the walk that remains.
-#[derive(Drop)]
+#[derive(Clone, Copy)]
 pub enum PartStep {
     Part {
         name: PartName,

@@ -18,7 +18,7 @@ use text::bytes::part;
 use text::find::{Found, first_crlf};
 use text::utf8::valid_up_to;
 
-#[derive(Drop)]
+#[derive(Clone, Copy)]
 pub enum ResponseExplained {
     Accepted {
         response: ATResponse,

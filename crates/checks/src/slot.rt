@@ -7,7 +7,7 @@ use text::bytes::part;
 use text::find::{Found, first_byte};
 
 // So many bytes; all but the last ones; or those before the first byte of a value, of all but the last ones.
-#[derive(Drop)]
+#[derive(Clone, Copy)]
 pub(crate) enum Span {
     Exactly(usize),
     AllBut(usize),
@@ -15,7 +15,7 @@ pub(crate) enum Span {
 }
 
 // What is passed over, the name of the field, and what it takes.
-#[derive(Drop)]
+#[derive(Clone, Copy)]
 pub(crate) struct Slot {
     pub pass: Span,
     pub name: PartName,

@@ -16,7 +16,7 @@ use at::w26::{ATEvent, EventAnswer, read};
 use at::w26_parts::parts;
 
 // `past` is the place just past the event.
-#[derive(Drop)]
+#[derive(Clone, Copy)]
 pub enum W26Explained {
     Accepted {
         event: ATEvent,

@@ -18,7 +18,7 @@ use text::bytes::part;
 use text::find::{Found, first_crlf};
 
 // `past` is the place just past the event.
-#[derive(Drop)]
+#[derive(Clone, Copy)]
 pub enum W36Explained {
     Accepted {
         event: ATEvent,

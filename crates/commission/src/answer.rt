@@ -17,7 +17,7 @@ use text::bytes::part;
 pub(crate) const LONGEST: usize = 16384;
 
 // The table after the line, and the place just past the answer.
-#[derive(Drop)]
+#[derive(Clone, Copy)]
 pub(crate) struct Answered {
     pub table: Channels,
     pub place: usize,

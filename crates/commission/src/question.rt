@@ -14,7 +14,7 @@ use text::bytes::{part, same};
 use text::find::{Found, first_byte};
 
 // The frame's bytes, so many of them, were put at the start of a buffer.
-#[derive(Drop)]
+#[derive(Clone, Copy)]
 pub(crate) enum Question {
     Frame(usize),
     Row(Channel),

@@ -14,7 +14,7 @@ use text::bytes::part;
 
 // From one read to the next: the table, how many bytes at the start of the input are those of a line whose end was not read yet, whether that line is
 // too long and its bytes are gone, what is to be written, and whether more is read.
-#[derive(Drop)]
+#[derive(Clone, Copy)]
 pub(crate) struct Session {
     pub table: Channels,
     pub kept: usize,
@@ -24,7 +24,7 @@ pub(crate) struct Session {
 }
 
 // The session after some lines, and where the line after them starts.
-#[derive(Drop)]
+#[derive(Clone, Copy)]
 struct Rest {
     start: usize,
     session: Session,

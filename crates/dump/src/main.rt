@@ -10,7 +10,7 @@ use pcap::WriteAnswer;
 use pcap::write::write_header;
 use text::bytes::{part, same};
 
-#[derive(Drop)]
+#[derive(Clone, Copy)]
 enum Asked {
     Form(Form),
     Unknown,

@@ -12,7 +12,7 @@ use render::word::word;
 use scan::listed::Listed;
 use text::bytes::part;
 
-#[derive(Drop)]
+#[derive(Clone, Copy)]
 pub(crate) enum Form {
     Lines,
     Capture,

@@ -6,7 +6,7 @@ ghost use Rattle.dump.specs.Total.{is_refused, counted_frame, counted_skipped, h
 use edm::FrameAnswer;
 use render::word::{number, word};
 
-#[derive(Drop)]
+#[derive(Clone, Copy)]
 pub(crate) struct Totals {
     pub kept: u64,
     pub refused: u64,

@@ -16,7 +16,7 @@ use text::bytes::part;
 
 // A dump in which a window begins at a place: how many bytes of that window are at hand, how many of them are reported or skipped for good, how many
 // skipped bytes are still to be reported, what was counted, what is to be written, and whether it goes on.
-#[derive(Drop)]
+#[derive(Clone, Copy)]
 pub(crate) struct Dumping {
     pub held: usize,
     pub place: usize,

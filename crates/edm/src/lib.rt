@@ -8,7 +8,7 @@ use at::response::ATResponse;
 use at::w26::ATEvent;
 use at::{AtPacketError, Text};
 
-#[derive(Drop)]
+#[derive(Clone, Copy)]
 pub enum EdmPacketError {
     PacketDecodeFramingInvalid,
     PacketDecodeTargetMemorySizeInvalid,
@@ -24,11 +24,11 @@ pub enum EdmPacketError {
 }
 
 // A channel is counted separately from peer handles and sockets.
-#[derive(Drop)]
+#[derive(Clone, Copy)]
 pub struct Channel(pub u8);
 
 // The remote end stands first, as in the frame. An address is a place of 4 bytes.
-#[derive(Drop)]
+#[derive(Clone, Copy)]
 pub struct ConnectEventIPv4 {
     pub protocol: u8,
     pub remote_addr: Text,
@@ -37,7 +37,7 @@ pub struct ConnectEventIPv4 {
     pub local_port: u16,
 }
 
-#[derive(Drop)]
+#[derive(Clone, Copy)]
 pub enum EdmPacket {
     ConnectEvent {
         channel: Channel,
@@ -61,13 +61,13 @@ pub enum EdmPacket {
     StartEvent,
 }
 
-#[derive(Drop)]
+#[derive(Clone, Copy)]
 pub enum FrameAnswer {
     Packet(EdmPacket),
     Refused(EdmPacketError),
 }
 
-#[derive(Drop)]
+#[derive(Clone, Copy)]
 pub enum WriteAnswer {
     Wrote(usize),
     Refused(EdmPacketError),

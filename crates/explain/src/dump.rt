@@ -18,7 +18,7 @@ const BYTES: usize = 6;
 const CHARACTERS: usize = 55;
 
 // What a line shows of each place.
-#[derive(Drop)]
+#[derive(Clone, Copy)]
 pub(crate) enum Layer {
     Hex,
     Character,

@@ -165,7 +165,7 @@ fn length_meaning(out: &mut [u8], pen: Pen, s: &[u8]) -> Pen {
 }
 
 // How the meaning of a field is written.
-#[derive(Drop)]
+#[derive(Clone, Copy)]
 enum Said {
     Hex,
     Number,

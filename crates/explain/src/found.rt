@@ -81,7 +81,7 @@ fn fields_there(out: &mut [u8], pen: Pen, i: u8) -> Pen {
 }
 
 // What is said of an input in place of what a check requires.
-#[derive(Drop)]
+#[derive(Clone, Copy)]
 enum Instead {
     Count(usize),
     Bytes(usize),

@@ -22,7 +22,7 @@ use lines::input::read_full;
 use text::bytes::{part, same};
 
 // What the arguments ask for, if they are understood.
-#[derive(Drop)]
+#[derive(Clone, Copy)]
 enum Asked {
     Page { kind: Kind, html: bool },
     Unknown,

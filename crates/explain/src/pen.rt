@@ -3,13 +3,13 @@ use crate::list::item;
 use text::bytes::part;
 
 // Where the next byte goes, and whether the page is HTML.
-#[derive(Drop)]
+#[derive(Clone, Copy)]
 pub(crate) struct Pen {
     pub at: usize,
     pub html: bool,
 }
 
-#[derive(Drop)]
+#[derive(Clone, Copy)]
 pub(crate) enum Style {
     Text,
     Quoted,

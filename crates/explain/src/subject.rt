@@ -7,7 +7,7 @@ use crate::pen::less;
 use text::bytes::part;
 use text::find::{Found, first_byte, first_crlf};
 
-#[derive(Drop)]
+#[derive(Clone, Copy)]
 pub(crate) enum Kind {
     Frame,
     W26,
@@ -29,7 +29,7 @@ pub(crate) fn kind_number(kind: Kind) -> usize {
 
 // `inner` is what the payload of a frame is; it is `Frame` where the payload holds no line and no response. Of anything else it is its kind.
 // `end` is where the payload or the line ends, `text_end` where the fields of its event end, `row` which event it is (event.rt).
-#[derive(Drop)]
+#[derive(Clone, Copy)]
 pub(crate) struct Subject {
     pub kind: Kind,
     pub inner: Kind,

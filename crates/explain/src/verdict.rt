@@ -13,7 +13,7 @@ use checks::w36::W36Explained;
 use edm::EdmPacket;
 
 // What a response says, if the input holds one.
-#[derive(Drop)]
+#[derive(Clone, Copy)]
 pub(crate) enum Reply {
     Nothing,
     Ok,
@@ -22,7 +22,7 @@ pub(crate) enum Reply {
 }
 
 // `past` is the place just past what was read.
-#[derive(Drop)]
+#[derive(Clone, Copy)]
 pub(crate) enum Verdict {
     Accepted {
         fields: PartWalk,

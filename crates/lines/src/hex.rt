@@ -6,7 +6,7 @@ ghost use Rattle.lines.specs.Steps.{step_of, Later, counted};
 use text::bytes::same;
 
 // How many bytes were put, that the text spells none, or that it spells more than there is room for.
-#[derive(Drop)]
+#[derive(Clone, Copy)]
 pub enum Decoded {
     Bytes(usize),
     NoHex,
@@ -14,7 +14,7 @@ pub enum Decoded {
 }
 
 // A byte that is spelt, and the place after its digits; or that none is left; or that this is no hex.
-#[derive(Drop)]
+#[derive(Clone, Copy)]
 enum Step {
     Byte { value: u8, next: usize },
     End,
@@ -22,7 +22,7 @@ enum Step {
 }
 
 // How many bytes a text spells, if it is hex.
-#[derive(Drop)]
+#[derive(Clone, Copy)]
 enum Counted {
     Bytes(usize),
     NoHex,

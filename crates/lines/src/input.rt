@@ -8,7 +8,7 @@ use text::bytes::{part, same};
 use text::find::{Found, first_byte};
 
 // How many bytes there are, and whether the system failed to read more.
-#[derive(Drop)]
+#[derive(Clone, Copy)]
 pub struct Got {
     pub count: usize,
     pub failed: bool,

@@ -9,7 +9,7 @@ use text::bytes::part;
 const NEARLY_FULL: usize = 114000;
 
 // So many bytes of the buffer are to be written, and writing still works.
-#[derive(Drop)]
+#[derive(Clone, Copy)]
 pub struct Out {
     pub count: usize,
     pub works: bool,

@@ -4,28 +4,28 @@ mod number;
 pub mod read;
 pub mod write;
 
-#[derive(Drop)]
+#[derive(Clone, Copy)]
 pub enum CaptureError {
     CaptureHeaderInvalid,
     CaptureRecordInvalid,
     CaptureBufferTooSmall,
 }
 
-#[derive(Drop)]
+#[derive(Clone, Copy)]
 pub enum ByteOrder {
     Little,
     Big,
 }
 
 // The byte order of a file, and whether all values of its header are those that `write_header` writes.
-#[derive(Drop)]
+#[derive(Clone, Copy)]
 pub enum HeaderAnswer {
     Header { order: ByteOrder, is_ours: bool },
     Refused(CaptureError),
 }
 
 // The frame is the `len` bytes from `start` on; the next record begins at `next`.
-#[derive(Drop)]
+#[derive(Clone, Copy)]
 pub struct Record {
     pub seconds: u32,
     pub microseconds: u32,
@@ -34,14 +34,14 @@ pub struct Record {
     pub next: usize,
 }
 
-#[derive(Drop)]
+#[derive(Clone, Copy)]
 pub enum RecordAnswer {
     Found(Record),
     End,
     Refused(CaptureError),
 }
 
-#[derive(Drop)]
+#[derive(Clone, Copy)]
 pub enum WriteAnswer {
     Wrote(usize),
     Refused(CaptureError),

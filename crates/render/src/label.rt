@@ -12,7 +12,7 @@ use checks::CheckName;
 use checks::part::PartName;
 
 // The number of a name in its list, and of the field that it is about.
-#[derive(Drop)]
+#[derive(Clone, Copy)]
 enum Label {
     Plain(usize),
     Field(usize, u8),

@@ -8,7 +8,7 @@ use lines::number::{Number, decimal};
 use text::bytes::{part, same};
 use text::find::{Found, first_byte};
 
-#[derive(Drop)]
+#[derive(Clone, Copy)]
 pub(crate) enum Reader {
     Frame,
     W26,
@@ -26,7 +26,7 @@ pub(crate) enum Reader {
 }
 
 // What the bytes are that are explained.
-#[derive(Drop)]
+#[derive(Clone, Copy)]
 pub(crate) enum Explained {
     Frame,
     W26,
@@ -35,7 +35,7 @@ pub(crate) enum Explained {
     Response,
 }
 
-#[derive(Drop)]
+#[derive(Clone, Copy)]
 pub(crate) enum Writer {
     Data(u8),
     Request,
@@ -45,7 +45,7 @@ pub(crate) enum Writer {
 }
 
 // The bytes are spelt from the place `from` on to the end of the line; a resend has none.
-#[derive(Drop)]
+#[derive(Clone, Copy)]
 pub(crate) enum Question {
     Read {
         reader: Reader,
@@ -62,7 +62,7 @@ pub(crate) enum Question {
     Nothing,
 }
 
-#[derive(Drop)]
+#[derive(Clone, Copy)]
 enum Kind {
     Read(Reader),
     Write(Writer),
@@ -146,7 +146,7 @@ fn writing_kind_of(name: &[u8]) -> Kind
     Kind::Unknown
 }
 
-#[derive(Drop)]
+#[derive(Clone, Copy)]
 enum Explainable {
     Kind(Explained),
     Nothing,
@@ -174,7 +174,7 @@ fn explained_kind(name: &[u8]) -> Explainable
 }
 
 // A number up to the next space, and the place after that space.
-#[derive(Drop)]
+#[derive(Clone, Copy)]
 enum Sized {
     Number { value: usize, next: usize },
     Nothing,

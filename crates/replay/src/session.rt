@@ -19,7 +19,7 @@ const NEARLY_FULL: usize = 49152;
 // What is kept from one turn to the next: how many bytes at the start of the input are those of a line whose end was not read yet, whether
 // that line is too long and its bytes are gone, its number, how many bytes of the output are to be written, and whether reading and writing
 // still work.
-#[derive(Drop)]
+#[derive(Clone, Copy)]
 pub(crate) struct Session {
     pub kept: usize,
     pub is_too_long: bool,
@@ -30,7 +30,7 @@ pub(crate) struct Session {
 }
 
 // The session after some lines, and where the line after them starts.
-#[derive(Drop)]
+#[derive(Clone, Copy)]
 pub(crate) struct Rest {
     pub start: usize,
     pub session: Session,

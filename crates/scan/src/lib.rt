@@ -8,13 +8,13 @@ ghost use Rattle.scan.specs.Scan.{Scans};
 
 use crate::fill::{count, fill};
 
-#[derive(Drop)]
+#[derive(Clone, Copy)]
 pub enum ScanError {
     RangeListFull,
     DumpTooLong,
 }
 
-#[derive(Drop)]
+#[derive(Clone, Copy)]
 pub enum ScanAnswer {
     // How many ranges.
     Ranges(usize),

@@ -2,7 +2,7 @@
 ghost use Rattle.std.specs.Prelude.{◌≡◌, get_or};
 ghost use Rattle.scan.specs.Listed.{listed_at, next_kept};
 
-#[derive(Drop)]
+#[derive(Clone, Copy)]
 pub struct Listed {
     pub start: usize,
     pub len: usize,
@@ -10,7 +10,7 @@ pub struct Listed {
 }
 
 // A range that is kept, whose bytes are `text::bytes::part(dump, start, len)`, and the number of the range after it.
-#[derive(Drop)]
+#[derive(Clone, Copy)]
 pub enum KeptStep {
     Kept {
         start: usize,

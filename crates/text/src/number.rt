@@ -6,33 +6,33 @@ ghost use Rattle.text.specs.NumberSteps.{spelt, too_large};
 
 // Why a text is no number of a width: it is empty; a byte of it is not allowed, which is no digit and no plus in front of a digit; or every
 // byte is allowed, and the number is too large.
-#[derive(Drop)]
+#[derive(Clone, Copy)]
 pub enum NumberError {
     Empty,
     Byte,
     Large,
 }
 
-#[derive(Drop)]
+#[derive(Clone, Copy)]
 pub enum Number8 {
     Value(u8),
     Refused(NumberError),
 }
 
-#[derive(Drop)]
+#[derive(Clone, Copy)]
 pub enum Number16 {
     Value(u16),
     Refused(NumberError),
 }
 
-#[derive(Drop)]
+#[derive(Clone, Copy)]
 pub enum Number32 {
     Value(u32),
     Refused(NumberError),
 }
 
 // A number below a limit, before it is given its width.
-#[derive(Drop)]
+#[derive(Clone, Copy)]
 enum Spelt {
     Value(u64),
     Nothing(NumberError),
