@@ -5,7 +5,7 @@ ghost use Rattle.at.specs.Refusal.{good};
 ghost use Rattle.at.specs.Event.{up_to};
 ghost use Rattle.at.specs.Line.{read_line, read_text};
 ghost use Rattle.at.specs.Binary.{read_body, tried, try_rows};
-ghost use Rattle.at.specs.W36.{table, binary_table, rows36, w36, event_of, shown, shown_binary, UESODB, UESODBF};
+ghost use Rattle.at.specs.W36.{table, binary_table, rows36, w36, event_of, shown, shown_binary, UESODB as uesodb_row, UESODBF as uesodbf_row};
 ghost use Rattle.at.specs.Table.{spelled};
 ghost use Rattle.at.specs.Parts.{row_no, Apart};
 ghost use Rattle.at.specs.Steps.{event_by, Lettered, read_found};
@@ -270,7 +270,7 @@ pub fn read(s: &[u8], from: usize) -> EventAnswer
 
 // The event +UESODB whose one field starts at `start`: the whole text up to the marker, which no comma cuts. A number is UTF-8 as it stands.
 fn socket_data(s: &[u8], start: usize) -> BinaryAnswer
-    ensures { shown_binary result ≡ tried (read_body UESODB start (drop start s.now)) }
+    ensures { shown_binary result ≡ tried (read_body uesodb_row start (drop start s.now)) }
 {
     match first_byte(s, start, 1) {
         Found::Nothing => BinaryAnswer::Refused(AtPacketError::FramingDecodeFailed),
@@ -295,7 +295,7 @@ fn socket_data(s: &[u8], start: usize) -> BinaryAnswer
 
 // The event +UESODBF whose fields start at `start`.
 fn socket_data_from(s: &[u8], start: usize) -> BinaryAnswer
-    ensures { shown_binary result ≡ tried (read_body UESODBF start (drop start s.now)) }
+    ensures { shown_binary result ≡ tried (read_body uesodbf_row start (drop start s.now)) }
 {
     match find_marker(s, start) {
         Marked::Refused(e) => BinaryAnswer::Refused(e),

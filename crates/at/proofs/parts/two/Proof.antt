@@ -1,8 +1,0 @@
--- `parts::two` meets its contract. Assumes nothing.
-use Rattle.at.proofs.PartsLaws.{part_of_value}
-use borrow.Author.Rules.{rules}
-use Rattle.at.proofs.parts.two.Statement.{statement}
-use Rattle.at.proofs.parts.two.Tie as tie
-
-pub two-spec : {M : Type 1} → statement M
-two-spec = tie.close (tie.spec (λ c κs. search rules) (λ c. rw (c.up-to-three.ensures, part_of_value, part_of_value)))

@@ -1,0 +1,17 @@
+use Prim.Native.Nat.{◌+◌, ◌*◌}
+use mathlib.Core.Path.{◌≡◌, ◌∙◌}
+use native.Mathlib.Omega.{arith}
+use Rattle.at.proofs.TableLaws.{none_past}
+use Rattle.at.proofs.table.kinds_at.Goals as goal
+
+pub returns-then-table-row : goal.returns-then-table-row
+returns-then-table-row c = c.part.ensures ∙ none_past c.args.table.now (c.args.row * 20 + 1) (c.args.row * 20 + 13) (omega (arith, c.if-table-row.true))
+
+pub overflow_mul-at : goal.overflow_mul-at
+overflow_mul-at c = omega (arith, c.if-table-row.false)
+
+pub overflow_add-at : goal.overflow_add-at
+overflow_add-at c = omega (arith, c.if-table-row.false)
+
+pub returns-else-at-table : goal.returns-else-at-table
+returns-else-at-table c = c.part-else-at-table.ensures ∙ none_past c.args.table.now (c.args.row * 20 + 1) (c.args.row * 20 + 13) (omega (arith, c.if-at-table.false))
