@@ -29,17 +29,20 @@ after-socket c =
 -- a comma follows the address too: the port is all that follows it
 after-address : (c : Else-n-ip_end)
     → let a = c.args in
-    let ip = c.field_end-end.result + 1 in
+    let end = c.field_end-end.result in
+    read_fields UESODBF a.start (drop a.start a.s.now)
+    ≡ prepend (num c.in-Value.n) (take_kinds 2 (text ∷ bits 16 ∷ []) (fields_up_to 1 (end + 1) (drop (end + 1) a.s.now)))
+    → let ip = c.field_end-end.result + 1 in
     let end = c.field_end-ip_end.result in
     read_fields UESODBF a.start (drop a.start a.s.now)
     ≡ prepend (num c.in-Value.n)
     (prepend (place ip (end - ip)) (take_kinds 3 (bits 16 ∷ []) (field (end + 1) (part a.s.now (end + 1) (length a.s.now)) ∷ [])))
 unfolding read_field take_kind take_kinds
-after-address c =
+after-address c h =
     let s = c.args.s.now in
     let ip = c.field_end-end.result + 1 in
     let end = c.field_end-ip_end.result in
-    after-socket c
+    h
     ∙ rw (cut_at 0 s ip c.field_end-ip_end.ensures, part_length s ip (end - ip) (omega arith), lt-ltb _ _ c.if-n-ip_end.false, up_to_none, part-rest s (end + 1))
 
 pub returns-in-Refused : goal.returns-in-Refused
@@ -61,8 +64,8 @@ returns-then-n-ip_end c =
 
 pub returns-in-Refused-read16 : goal.returns-in-Refused-read16
 unfolding read_field take_kind take_kinds
-returns-in-Refused-read16 c = rw (c.field_refused-in-Refused-read16.ensures, after-address (goal.at.returns-in-Refused-read16 c).Else-n-ip_end, ← c.part-2.ensures, ← c.read16.ensures, c.in-Refused-read16.is)
+returns-in-Refused-read16 c = rw (c.field_refused-in-Refused-read16.ensures, after-address (goal.at.returns-in-Refused-read16 c).Else-n-ip_end (after-socket (goal.at.returns-in-Refused-read16 c).Else-n-end), ← c.part-2.ensures, ← c.read16.ensures, c.in-Refused-read16.is)
 
 pub returns : goal.returns
 unfolding read_field take_kind take_kinds
-returns c = rw (after-address (goal.at.returns c).Else-n-ip_end, ← c.part-2.ensures, ← c.read16.ensures, c.in-Value-read16.is)
+returns c = rw (after-address (goal.at.returns c).Else-n-ip_end (after-socket (goal.at.returns c).Else-n-end), ← c.part-2.ensures, ← c.read16.ensures, c.in-Value-read16.is)

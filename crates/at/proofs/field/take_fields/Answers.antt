@@ -45,9 +45,8 @@ returns-in_default c =
 
 -- the field that was found is read by its kind
 there : (c : After-field_of)
-    → let x = c.start.given.0 in
-    let k = kind_of (get_or (Letters c) c.loop-i.i 0) in
-    (i : ℕ) → one_of i k c.field_of.result ≡ read_field i k x.0 (part c.args.s.now x.0 x.1.0)
+    → let k = kind_of (get_or (take c.args.kinds.count c.args.kinds.letters) c.loop-i.i 0) in
+    (i : ℕ) → one_of i k c.field_of.result ≡ read_field i k c.in-Field.start (part c.args.s.now c.in-Field.start c.in-Field.len)
 there c =
     let letter = get_or-take c.args.kinds.count c.args.kinds.letters c.loop-i.i 0 c.loop-i-test.true in
     λ i. rw letter (rw c.part.ensures at (c.field_of.ensures i))
@@ -81,3 +80,15 @@ returns c =
     let all = length-take-le k.count k.letters (omega (arith, held.room, held.few)) in
     let end : length (take k.count k.letters) ≤ c.loop-i.i = omega (arith, all, c.loop-i-test.false) in
     sym (rw c.loop-i.invariant.1.1 (all_taken (take k.count k.letters) _ _ _ end))
+
+pub overflow_mul-k : goal.overflow_mul-k
+overflow_mul-k c = omega (arith, room (goal.at.overflow_mul-k c).In-loop-i)
+
+pub bounds-numbers-k : goal.bounds-numbers-k
+bounds-numbers-k c = omega (arith, room (goal.at.bounds-numbers-k c).In-loop-i)
+
+pub overflow_add-numbers : goal.overflow_add-numbers
+overflow_add-numbers c = omega (arith, room (goal.at.overflow_add-numbers c).In-loop-i)
+
+pub bounds-numbers-k-in-Got : goal.bounds-numbers-k-in-Got
+bounds-numbers-k-in-Got c = simp length-set (room (goal.at.bounds-numbers-k-in-Got c).In-loop-i)

@@ -19,7 +19,7 @@ use Rattle.at.proofs.field.take_fields.Given as goal
 -- Assumes nothing.
 abbrev pub invariant-loop-i : goal.invariant-loop-i
 invariant-loop-i l =
-    (l.i ≤ l.count) × ((length l.numbers ≡ 14) × (take_kinds 1 (kinds_in (take l.count l.letters)) (left l.s (record { l.at = l.initial.at })) ≡ ahead (values_of (kinds_in (take l.i (take l.count l.letters))) 0 (fields_in l.numbers)) (take_kinds (suc l.i) (kinds_in (drop l.i (take l.count l.letters))) (left l.s (record { l.at = l.at })))))
+    (l.i ≤ l.count) × ((length l.numbers ≡ 14) × (take_kinds 1 (kinds_in (take l.count l.letters)) (left l.s (record { at = l.initial.at })) ≡ ahead (values_of (kinds_in (take l.i (take l.count l.letters))) 0 (fields_in l.numbers)) (take_kinds (suc l.i) (kinds_in (drop l.i (take l.count l.letters))) (left l.s (record { at = l.at })))))
 
 abbrev pub decreases-loop-i : goal.decreases-loop-i
 decreases-loop-i l = l.count - l.i

@@ -1,6 +1,5 @@
 use Prim.Native.Nat.{◌<◌}
 use mathlib.Core.Path.{◌≡◌, refl, sym, ap, ◌∙◌}
-use mathlib.Core.Logic.{⊎_elim}
 use native.Mathlib.Omega.{arith}
 use lib.ListN.{length}
 use Rattle.text.specs.FieldSteps.{left}
@@ -13,7 +12,7 @@ use Rattle.at.proofs.TableTests.{rows-w26, legible-w26}
 use Rattle.at.proofs.RowsLaws.{not-left_read, left_read}
 use borrow.Author.Rules.{rules}
 use Rattle.at.proofs.w26.event_by.Goals as goal
-use Rattle.at.proofs.w26.event_by.Goals.{Joined-is_left}
+use Rattle.at.proofs.w26.event_by.Goals.{Joined-is_left, then-is_left, else-is_left}
 
 -- `w26::event_by` meets its contract: a type that the first row of `+UUDPC` has not is left to the second. Assumes nothing.
 -- what was taken by the one row or the other
@@ -25,21 +24,21 @@ settled : (c : Joined-is_left)
 settled c =
     let a = c.args in
     let pre = c.requires in
-    let first = outcome_read table a.e (left a.s.now a.w) c.take_fields-stop.new.0 c.take_fields-stop.result pre.0 legible-w26 pre.1 c.take_fields-stop.ensures in
-    let taken : Taken = record { row = a.e.row; fields = fields_in c.take_fields-stop.new.0 } in
-    ⊎_elim
-    (λ w.
-    let second = outcome_read table (record { row = 25; kinds = w.2.result }) (left a.s.now a.w) w.3.last.0 w.3.result (omega (arith, rows-w26)) legible-w26 w.2.ensures w.3.ensures in (
-      rw w.5 (omega (arith, rows-w26)),
-      rw w.6 (search rules),
-      rw (w.5, w.6, w.7) (left_read a.e.row _ taken c.take_fields-stop.result first _ second (sym c.is_left.ensures ∙ w.0.taken)),
-    ))
-    (λ w. (
-      rw w.1 pre.0,
-      rw w.2 (search rules),
-      rw (w.1, w.2, w.3) (not-left_read a.e.row _ taken c.take_fields-stop.result first refl (sym c.is_left.ensures ∙ w.0.left)),
-    ))
-    c.if-is_left.branch
+    let first = outcome_read table a.e (left a.s.now a.w) c.take_fields-stop.new.numbers c.take_fields-stop.result pre.0 legible-w26 pre.1 c.take_fields-stop.ensures in
+    let taken : Taken = record { row = a.e.row; fields = fields_in c.take_fields-stop.new.numbers } in
+    elim c.if-is_left.branch [
+      | then-is_left w ↦
+          let second = outcome_read table (record { row = 25; kinds = w.bluetooth_kinds.result }) (left a.s.now a.w) w.take_fields-stop-then-is_left.new.numbers w.take_fields-stop-then-is_left.result (omega (arith, rows-w26)) legible-w26 w.bluetooth_kinds.ensures w.take_fields-stop-then-is_left.ensures in (
+            rw w.row-is (omega (arith, rows-w26)),
+            rw w.numbers-is (search rules),
+            rw (w.row-is, w.numbers-is, w.stop-is) (left_read a.e.row _ taken c.take_fields-stop.result first _ second (sym c.is_left.ensures ∙ w.if-is_left.true)),
+          )
+      | else-is_left w ↦ (
+        rw w.row-is pre.0,
+        rw w.numbers-is (search rules),
+        rw (w.row-is, w.numbers-is, w.stop-is) (not-left_read a.e.row _ taken c.take_fields-stop.result first refl (sym c.is_left.ensures ∙ w.if-is_left.false)),
+      )
+    ]
 
 pub slice_bounds-answer-end : goal.slice_bounds-answer-end
 slice_bounds-answer-end c = sym (settled (goal.at.slice_bounds-answer-end c).Joined-is_left).1

@@ -10,10 +10,11 @@ use Rattle.at.proofs.w26.read.Goals as goal
 pub returns-in-Body : goal.returns-in-Body
 unfolding read_line part
 returns-in-Body c = let a = c.args in
-    let x = c.start.given.0 in
-    let e : good (body x.0 (drop x.0 (take x.1.0 a.s.now))) ≡ framed a.from (drop a.from a.s.now)
+    let x = c.in-Body.start in
+    let end = c.in-Body.end in
+    let e : good (body x (drop x (take end a.s.now))) ≡ framed a.from (drop a.from a.s.now)
     = sym (ap (framed_of a.s.now) c.in-Body.is) ∙ c.frame_line.ensures in
-    c.event_in.ensures ∙ rw (c.part.ensures, line_to_end a.s.now a.from x.0 (drop x.0 (take x.1.0 a.s.now)) e, ← e)
+    c.event_in.ensures ∙ rw (c.part.ensures, line_to_end a.s.now a.from x (drop x (take end a.s.now)) e, ← e)
 
 pub returns-in-Refused : goal.returns-in-Refused
 unfolding read_line

@@ -19,11 +19,11 @@ none name = refl
 seven : (c : Else-first-lt7) → rows_named (take 7 table) c.args.name.now ≡ []
 seven c = not_there table _ 0 (none _) _ 7 (omega (arith, rows-w26)) c.first_entry-first.ensures c.if-first-lt7.false
 
-fourteen : (c : Else-second-lt7) → rows_named (take 14 table) c.args.name.now ≡ []
-fourteen c = not_there table _ 7 (seven c) _ 7 (omega (arith, rows-w26)) c.second_entry-second.ensures c.if-second-lt7.false
+fourteen : (c : Else-second-lt7) → rows_named (take 7 table) c.args.name.now ≡ [] → rows_named (take 14 table) c.args.name.now ≡ []
+fourteen c n = not_there table _ 7 n _ 7 (omega (arith, rows-w26)) c.second_entry-second.ensures c.if-second-lt7.false
 
-twenty-one : (c : Else-third-lt7) → rows_named (take 21 table) c.args.name.now ≡ []
-twenty-one c = not_there table _ 14 (fourteen c) _ 7 (omega (arith, rows-w26)) c.third_entry-third.ensures c.if-third-lt7.false
+twenty_one : (c : Else-third-lt7) → rows_named (take 14 table) c.args.name.now ≡ [] → rows_named (take 21 table) c.args.name.now ≡ []
+twenty_one c n = not_there table _ 14 n _ 7 (omega (arith, rows-w26)) c.third_entry-third.ensures c.if-third-lt7.false
 
 pub returns-then-first-lt7 : goal.returns-then-first-lt7
 returns-then-first-lt7 c = rw c.numbered_from.ensures (found_there table _ 0 (none _) _ 7 (omega (arith, rows-w26)) c.first_entry-first.ensures c.if-first-lt7.true)
@@ -32,10 +32,10 @@ pub returns-then-second-lt7 : goal.returns-then-second-lt7
 returns-then-second-lt7 c = rw c.numbered_from-then-second-lt7.ensures (found_there table _ 7 (seven (goal.at.returns-then-second-lt7 c).Else-first-lt7) _ 7 (omega (arith, rows-w26)) c.second_entry-second.ensures c.if-second-lt7.true)
 
 pub returns-then-third-lt7 : goal.returns-then-third-lt7
-returns-then-third-lt7 c = rw c.numbered_from-then-third-lt7.ensures (found_there table _ 14 (fourteen (goal.at.returns-then-third-lt7 c).Else-second-lt7) _ 7 (omega (arith, rows-w26)) c.third_entry-third.ensures c.if-third-lt7.true)
+returns-then-third-lt7 c = rw c.numbered_from-then-third-lt7.ensures (found_there table _ 14 (fourteen (goal.at.returns-then-third-lt7 c).Else-second-lt7 (seven (goal.at.returns-then-third-lt7 c).Else-first-lt7)) _ 7 (omega (arith, rows-w26)) c.third_entry-third.ensures c.if-third-lt7.true)
 
 pub returns : goal.returns
-returns c = rw c.numbered_from-2.ensures (found_last table _ 21 (twenty-one (goal.at.returns c).Else-third-lt7) _ (omega (arith, rows-w26)) c.last_entry-last.ensures)
+returns c = rw c.numbered_from-2.ensures (found_last table _ 21 (let a = goal.at.returns c in twenty_one a.Else-third-lt7 (fourteen a.Else-second-lt7 (seven a.Else-first-lt7))) _ (omega (arith, rows-w26)) c.last_entry-last.ensures)
 
 pub numbered_from-requires-2 : goal.numbered_from-requires-2
 numbered_from-requires-2 c = omega (arith, length-drop 21 table, rows-w26, c.last_entry-last.ensures.0.few)

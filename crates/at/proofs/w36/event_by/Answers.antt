@@ -10,8 +10,8 @@ use Rattle.at.proofs.w36.event_by.Goals as goal
 use Rattle.at.proofs.w36.event_by.Goals.{After-take_fields-stop}
 
 -- `w36::event_by` meets its contract: the fields taken by the letters of the row are those that the definition reads. Assumes nothing.
-read : (c : After-take_fields-stop) → let a = c.args in outcome_by table (record { row = a.e.row; fields = fields_in c.take_fields-stop.new.0 }) c.take_fields-stop.result ≡ read_found (row_no table a.e.row) (left a.s.now a.w)
-read c = outcome_read table c.args.e _ c.take_fields-stop.new.0 c.take_fields-stop.result c.requires.0 legible-w36 c.requires.1 c.take_fields-stop.ensures
+read : (c : After-take_fields-stop) → let a = c.args in outcome_by table (record { row = a.e.row; fields = fields_in c.take_fields-stop.new.numbers }) c.take_fields-stop.result ≡ read_found (row_no table a.e.row) (left a.s.now a.w)
+read c = outcome_read table c.args.e _ c.take_fields-stop.new.numbers c.take_fields-stop.result c.requires.0 legible-w36 c.requires.1 c.take_fields-stop.ensures
 
 pub returns-in-Nowhere : goal.returns-in-Nowhere
 returns-in-Nowhere c =

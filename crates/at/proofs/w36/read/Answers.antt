@@ -14,7 +14,7 @@ use Rattle.at.proofs.w36.read.Goals.{In-Body}
 -- `w36::read` meets its contract: of a well_framed line, the text before the next CR LF is read. Assumes nothing.
 -- the text of the line, up to its last two bytes
 abbrev text : In-Body → List ℕ
-text c = let x = c.start.given.0 in drop x.0 (take x.1.0 c.args.s.now)
+text c = drop c.in-Body.start (take c.in-Body.end c.args.s.now)
 
 framing : (c : In-Body) → let a = c.args in good (body c.in-Body.start (text c)) ≡ framed a.from (drop a.from a.s.now)
 framing c = sym (ap (framed_of c.args.s.now) c.in-Body.is) ∙ c.frame_line.ensures
@@ -26,7 +26,7 @@ first_line_end-end-requires c = let a = c.args in
 pub overflow_add-end : goal.overflow_add-end
 overflow_add-end c = let a = c.args in
     let x = c.in-Body.start in
-    omega (arith, past_inside a.s.now a.from x (text (goal.at.overflow_add-end c).In-Body) (framing (goal.at.overflow_add-end c).In-Body) c.first_line_end-end.result c.first_line_end-end.ensures, c.well-formed)
+    omega (arith, past_inside a.s.now a.from x (text (goal.at.overflow_add-end c).In-Body) (framing (goal.at.overflow_add-end c).In-Body) c.first_line_end-end.result c.first_line_end-end.ensures, c.well_formed)
 
 pub returns-in-Body : goal.returns-in-Body
 unfolding read_line part

@@ -37,10 +37,10 @@ pub overflow_sub-marker-in-Refused : goal.overflow_sub-marker-in-Refused
 overflow_sub-marker-in-Refused c = (inside (goal.at.overflow_sub-marker-in-Refused c).In-At).0
 
 pub overflow_add-marker : goal.overflow_add-marker
-overflow_add-marker c = omega (arith, (inside (goal.at.overflow_add-marker c).In-At).1, c.well-formed)
+overflow_add-marker c = omega (arith, (inside (goal.at.overflow_add-marker c).In-At).1, c.well_formed)
 
 pub overflow_add-result : goal.overflow_add-result
-overflow_add-result c = let a = c.args in let m = c.in-At.marker in let d = data-inside a.s.now (m + 1) (omega (arith, (inside (goal.at.overflow_add-result c).In-At).1)) (sym (ap data_of c.in-Got.is) ∙ c.data_at.ensures) in omega (arith, d.1, c.well-formed)
+overflow_add-result c = let a = c.args in let m = c.in-At.marker in let d = data-inside a.s.now (m + 1) (omega (arith, (inside (goal.at.overflow_add-result c).In-At).1)) (sym (ap data_of c.in-Got.is) ∙ c.data_at.ensures) in omega (arith, d.1, c.well_formed)
 
 pub returns-in-Nothing : goal.returns-in-Nothing
 returns-in-Nothing c = let a = c.args in rw (body_unmarked UESODB a.s.now a.start (sym (marker-nowhere a.s.now a.start (sym c.first_byte.ensures ∙ c.in-Nothing.is))))

@@ -29,7 +29,7 @@ fields c =
     c.address_fields.ensures ∙ rw (c.part.ensures, drop-part a.s.now a.start c.in-After.len)
 
 pub overflow_add-start : goal.overflow_add-start
-overflow_add-start c = omega (arith, inside c, c.well-formed)
+overflow_add-start c = omega (arith, inside c, c.well_formed)
 
 pub address_fields-requires : goal.address_fields-requires
 address_fields-requires c =
@@ -38,17 +38,17 @@ address_fields-requires c =
     rw (c.part.ensures, part_length a.s.now 0 (a.start + c.in-After.len) (omega arith)) (omega arith)
 
 pub overflow_add-start-in-Got : goal.overflow_add-start-in-Got
-overflow_add-start-in-Got c = omega (arith, inside (goal.at.overflow_add-start-in-Got c).In-After, c.well-formed)
+overflow_add-start-in-Got c = omega (arith, inside (goal.at.overflow_add-start-in-Got c).In-After, c.well_formed)
 
 pub overflow_add-start-in-Got-2 : goal.overflow_add-start-in-Got-2
-overflow_add-start-in-Got-2 c = omega (arith, inside (goal.at.overflow_add-start-in-Got-2 c).In-After, c.well-formed)
+overflow_add-start-in-Got-2 c = omega (arith, inside (goal.at.overflow_add-start-in-Got-2 c).In-After, c.well_formed)
 
 pub overflow_add-result : goal.overflow_add-result
 overflow_add-result c = let a = c.args in
     let l = inside (goal.at.overflow_add-result c).In-After in
     let at = a.start + c.in-After.len + 1 in
     let d = data-inside a.s.now at (omega arith) (sym (ap data_of c.in-Got-data_at.is) ∙ c.data_at.ensures) in
-    omega (arith, d.1, c.well-formed)
+    omega (arith, d.1, c.well_formed)
 
 pub returns-in-Refused : goal.returns-in-Refused
 returns-in-Refused c =

@@ -20,7 +20,7 @@ skipped c =
 pub overflow_add-from : goal.overflow_add-from
 overflow_add-from c =
     let a = c.args in
-    omega (arith, prefix-inside UESODB a.s.now a.from (sym c.starts_at.ensures ∙ c.if-starts_at.true), c.well-formed)
+    omega (arith, prefix-inside UESODB a.s.now a.from (sym c.starts_at.ensures ∙ c.if-starts_at.true), c.well_formed)
 
 pub returns-then-starts_at : goal.returns-then-starts_at
 unfolding binary_table
@@ -31,7 +31,7 @@ returns-then-starts_at c =
 pub overflow_add-from-then-starts_at-2 : goal.overflow_add-from-then-starts_at-2
 overflow_add-from-then-starts_at-2 c =
     let a = c.args in
-    omega (arith, prefix-inside UESODBF a.s.now a.from (sym c.starts_at-2.ensures ∙ c.if-starts_at-2.true), c.well-formed)
+    omega (arith, prefix-inside UESODBF a.s.now a.from (sym c.starts_at-2.ensures ∙ c.if-starts_at-2.true), c.well_formed)
 
 pub returns-then-starts_at-2 : goal.returns-then-starts_at-2
 returns-then-starts_at-2 c =
