@@ -1,4 +1,6 @@
 // EDM frames, read and written. Every place in an answer counts from the start of the frame.
+#![tactic(auto)]
+
 pub mod command;
 mod connect;
 pub mod frame;
