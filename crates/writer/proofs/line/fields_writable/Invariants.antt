@@ -1,0 +1,17 @@
+use borrow.Author.Tests.{not-true, not-false}
+use mathlib.Core.List.{[], ◌∷◌}
+use mathlib.Core.Path.{◌≡◌, refl, sym, ◌∙◌}
+use Prim.Native.Nat.{◌+◌, ◌-◌, ◌≤◌}
+use native.Mathlib.Omega.{arith}
+use lib.ListN.{take, drop}
+use Rattle.at.specs.Parts.{value_of, values_of}
+use Rattle.writer.specs.Write.{writable_fields}
+use Rattle.writer.proofs.FieldsLaws.{values-next, values-end, writable-next, writable-stop, writable-none}
+use Rattle.writer.proofs.line.fields_writable.Given as goal
+
+-- `line::fields_writable` meets its contract. The invariant: whether the fields can be written is whether those from `i` on can. Assumes nothing.
+abbrev pub invariant-loop-i : goal.invariant-loop-i
+invariant-loop-i l = (l.i ≤ l.n) × (writable_fields l.marked l.src (take l.n (values_of l.p)) ≡ writable_fields l.marked l.src (drop l.i (take l.n (values_of l.p))))
+
+abbrev pub decreases-loop-i : goal.decreases-loop-i
+decreases-loop-i l = l.n - l.i
