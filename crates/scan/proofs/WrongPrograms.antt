@@ -6,6 +6,7 @@ use mathlib.Core.List.{List, [], ◌∷◌, ◌++◌}
 use native.Mathlib.Omega.{arith}
 use contract.Lifetimes.{Lfts}
 use denote.Ref.{Bor}
+use denote.MutBor.{MutBor}
 use denote.Triple.Clauses.{AtExit}
 use borrow.Fn.Kinds.{ended_of}
 use mathlib.Core.Bool.{true, false}
@@ -28,7 +29,7 @@ use Rattle.scan.proofs.listed.next_kept as next-kept
 use Rattle.scan.proofs.window.decided_places as decided_places_lem
 use Rattle.scan.proofs.window.decided_bytes as decided_bytes_lem
 
-module _ (κs : Lfts 2) (dump list : Bor (List ℕ)) (x : ScanAnswer) (i : AtExit (ended_of 2 scan.Kinds.ps scan.Kinds.r) κs) (p : scan.Reads.Post κs (dump, (list, tt)) x i) where
+module _ (κs : Lfts 2) (dump : Bor (List ℕ)) (list : MutBor (List ℕ)) (x : ScanAnswer) (i : AtExit (ended_of 2 scan.Kinds.ps scan.Kinds.r) κs) (p : scan.Reads.Post κs (dump, (list, tt)) x i) where
   abbrev Lists : ℕ → List ℕ → Type 0
   Lists n numbers = (x ≡ answer.Ranges n) × (i.1.0.now ≡ numbers ++ drop (length numbers) list.now)
 

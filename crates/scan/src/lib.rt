@@ -1,4 +1,6 @@
 // Frames out of a noisy serial dump: the dump as ranges of bytes, kept or skipped.
+#![tactic(auto)]
+
 mod fill;
 pub mod listed;
 mod run;
