@@ -1,7 +1,5 @@
 pub mod CellLaws
 pub mod FieldLaws
-pub mod Lent
-pub mod Members
 pub mod MachineLaws
 pub mod Facts
 pub mod Programs

@@ -18,13 +18,17 @@ use lib.Seq.{ext_get_or}
 use Rattle.text.proofs.OneOutcome.{OneAnswer}
 use Rattle.channels.specs.declared.Channels.{Channels}
 use Rattle.channels.specs.Machine.{Machine, step}
+use Rattle.channels.specs.Steps.{Whole}
 use Rattle.channels.specs.View.{view}
 use Rattle.channels.proofs.Facts.{both_entail}
-use Rattle.channels.proofs.Members.{Full}
 use Rattle.channels.proofs.Programs.{Feeding, before, frame_of, after, fed, fed_step}
 use Rattle.channels.proofs.fresh as made
 use Rattle.channels.specs.contracts.row as row
 use Rattle.channels.specs.contracts.counts as counts
+
+-- each array of a table has 256 numbers
+abbrev pub Full : Channels → Type 0
+Full t = Whole t.kind t.high t.low t.port
 
 pub one_table : (t u : Channels) → Full t → Full u → view t ≡ view u → t ≡ u
 one_table t u ft fu e = λ i. record {
@@ -41,7 +45,7 @@ one_table t u ft fu e = λ i. record {
     lists : (xs ys : List ℕ) → length xs ≡ length ys → ((c : ℕ) → get_or xs c 0 ≡ get_or ys c 0) → xs ≡ ys
     lists xs ys l same = ext_get_or 0 xs ys l (λ c h. same c)
 
--- every array of a table has 256 numbers, which whoever holds one knows (`full` of `Members`)
+-- every array of a table has 256 numbers, since that is their type
 pub one-fresh : (κs : Lfts 0) (a : Dens κs made.Kinds.ps) (t u : Channels) (s v : AtExit (ended_of 0 made.Kinds.ps made.Kinds.r) κs) → Full t → Full u → made.Reads.Post κs a t s → made.Reads.Post κs a u v → t ≡ u
 one-fresh κs a t u s v ft fu p q = one_table t u ft fu (p ∙ sym q)
 

@@ -1,5 +1,7 @@
 // Which probe holds which channel: a table of 256 channels, lent to each call and updated where it stands.
 // The calls lend the table's fields on to functions over plain arrays; one row and the counts are changed by value (`cell`).
+#![tactic(auto)]
+
 mod arrival;
 pub mod cell;
 mod fields;

@@ -1,0 +1,5 @@
+use Rattle.channels.proofs.fields.row_at.Goals as goal
+
+-- `fields::row_at` meets its contract. Assumes nothing.
+pub returns : goal.returns
+returns c = rw c.index-i.ensures.0
