@@ -1,5 +1,7 @@
 // The true reason: which check of document 01 refused a frame, a line or a response, and at which byte; or, of an accepted one, which bytes each
 // field came from. Every place counts from the start of the slice that was lent.
+#![tactic(auto)]
+
 pub mod binary;
 mod field;
 pub mod frame;

@@ -1,0 +1,14 @@
+use Prim.Native.Nat.{suc, ◌+◌, ◌-◌, ◌≤◌}
+use mathlib.Core.Path.{◌≡◌, refl, sym, ◌∙◌}
+use native.Mathlib.Omega.{arith}
+use Rattle.text.specs.FieldSteps.{left}
+use Rattle.checks.specs.Steps.{start_no}
+use Rattle.checks.proofs.StartLaws.{none_starts, passed-field, this_field}
+use Rattle.checks.proofs.field.nth_start.Given as goal
+
+-- `field::nth_start` meets its contract.
+abbrev pub invariant-loop-i : goal.invariant-loop-i
+invariant-loop-i l = (1 ≤ l.i) × (start_no (l.field - 1) (left l.s (record { at = l.start })) ≡ start_no (l.field - l.i) (left l.s (record { at = l.at })))
+
+abbrev pub decreases-loop-i : goal.decreases-loop-i
+decreases-loop-i l = l.field - l.i
