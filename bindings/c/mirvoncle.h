@@ -1,5 +1,5 @@
 /* EDM frames and AT events of u-blox radios, read and written. Each call is a proved function of crates/abi: its promise stands
- * there, in full. Link with libabi.a, which `rt staticlib abi` writes to target/staticlib; it is for x86-64 Linux.
+ * there, in full. Link with libabi.a, which `./build abi` writes to target/staticlib; it is for x86-64 Linux.
  *
  * What a caller owes, since no call can see it:
  *   - a pointer leads to as many bytes as the length beside it says, all of one object, and is not NULL even where that is 0;

@@ -1,4 +1,4 @@
-//! Finds libabi.a: in the folder that `MIRVONCLE_ARCHIVE` names, else where `rt staticlib abi`
+//! Finds libabi.a: in the folder that `MIRVONCLE_ARCHIVE` names, else where `./build abi`
 //! writes it. An archive of another version ends the build here.
 
 use std::path::{Path, PathBuf};
@@ -19,13 +19,13 @@ fn main() {
     println!("cargo:rerun-if-changed={}", archive.display());
     if !archive.is_file() {
         end(&format!(
-            "{} is not there: write it with `rt staticlib abi`, or name its folder in MIRVONCLE_ARCHIVE",
+            "{} is not there: write it with `./build abi`, or name its folder in MIRVONCLE_ARCHIVE",
             archive.display()
         ));
     }
     match fs::read(&archive) {
         Ok(bytes) if !has_version(&bytes) => end(&format!(
-            "{} is of another version, it has no {VERSION}: write it anew with `rt staticlib abi`",
+            "{} is of another version, it has no {VERSION}: write it anew with `./build abi`",
             archive.display()
         )),
         Ok(_) => {}
