@@ -1,6 +1,10 @@
 -- The promises allow one outcome only: the answer, and every byte of a lent buffer. They are the functions' own: `decode.Reads.Post` is what `decode`
 -- ensures. What `read_after` and `read_full` read, and whether writing works, is the system's to say. Assumes nothing.
 use mathlib.Core.Path.{◌≡◌, refl, sym, ap, ◌∙◌}
+use denote.Param.Laws.{Laws}
+use denote.RattleType.{RattleType}
+use mir.Syntax.{Dict}
+use Rattle.std.specs.declared.io.Print as Print
 use Rattle.text.proofs.OneOutcome.{One}
 use Rattle.lines.specs.Number.{Amount, amount, no_amount, amount_of}
 use Rattle.lines.specs.declared.number.Number.{Number}
@@ -41,9 +45,10 @@ pub one-move_to_front : One 1 move_to_front.Kinds.ps move_to_front.Kinds.r move_
     × One 1 move_to_front.Kinds.ps move_to_front.Kinds.r move_to_front.Reads.Post (λ κs x s. s.0.now)
 one-move_to_front = ((λ κs a x y s t p q. p.0 ∙ sym q.0), λ κs a x y s t p q. p.1 ∙ sym q.1)
 
--- how many bytes are to be written
-pub one-write_out : One 1 write_out.Kinds.ps write_out.Kinds.r write_out.Reads.Post (λ κs x s. x.count)
-one-write_out κs a x y s t p q = p.0 ∙ sym q.0
+-- how many bytes are to be written, whatever prints them
+module _ (T : RattleType) (L : Laws T) (p : Print.Ghosts T.Denot) (d : Dict) where
+  pub one-write_out : One 3 (write_out.Kinds.ps T L) (write_out.Kinds.r T L) (write_out.Reads.Post T L p d) (λ κs x s. x.count)
+  one-write_out κs a x y s t p q = p.0 ∙ sym q.0
 
-pub one_with_room : One 1 with_room.Kinds.ps with_room.Kinds.r with_room.Reads.Post (λ κs x s. x.count)
-one_with_room κs a x y s t p q = p.0 ∙ sym q.0
+  pub one_with_room : One 3 (with_room.Kinds.ps T L) (with_room.Kinds.r T L) (with_room.Reads.Post T L p d) (λ κs x s. x.count)
+  one_with_room κs a x y s t p q = p.0 ∙ sym q.0

@@ -5,7 +5,12 @@ use mathlib.Core.Path.{◌≡◌}
 use mathlib.Core.List.{List}
 use mathlib.Core.Bool.{false}
 use contract.Lifetimes.{Lfts}
+use denote.Param.Laws.{Laws}
+use denote.RattleType.{RattleType}
 use denote.Ref.{Bor}
+use mir.Syntax.{Dict}
+use Rattle.std.specs.declared.io.traits.Read as Read
+use Rattle.std.specs.declared.io.Print as Print
 use denote.Triple.Clauses.{AtExit}
 use borrow.Fn.Kinds.{Dens, ended_of}
 use lib.ListN.{take}
@@ -93,33 +98,33 @@ module _ (κs : Lfts 1) (a : Dens κs move_to_front.Kinds.ps) (x : ℕ) (e : AtE
   past_the_buffer f g = rw (s, f, g) at p
 
 -- one that reads over the bytes that are kept, and one that counts what had no room
-module _ (κs : Lfts 1) (a : Dens κs read_after.Kinds.ps) (x : Got) (e : AtExit (ended_of 1 read_after.Kinds.ps read_after.Kinds.r) κs) (p : read_after.Reads.Post κs a x e)
-    (s : a.0.now ≡ hex "AA BB") where
-  pub kept_byte : a.1.0 ≡ 1 → take 1 e.0.now ≡ hex "AA"
+module _ (T : RattleType) (L : Laws T) (g : Read.Ghosts T.Denot) (d : Dict) (κs : Lfts 3) (a : Dens κs (read_after.Kinds.ps T L)) (x : Got) (e : AtExit (ended_of 3 (read_after.Kinds.ps T L) (read_after.Kinds.r T L)) κs) (p : read_after.Reads.Post T L g d κs a x e)
+    (s : a.1.0.now ≡ hex "AA BB") where
+  pub kept_byte : a.1.1.0 ≡ 1 → take 1 e.1.0.now ≡ hex "AA"
   kept_byte k = (rw (s, k) at p).stays
 
   pub no-more_than_room : x.count ≤ 2
   no-more_than_room = (rw s at p).fits
 
-module _ (κs : Lfts 1) (a : Dens κs read_full.Kinds.ps) (x : Got) (e : AtExit (ended_of 1 read_full.Kinds.ps read_full.Kinds.r) κs) (p : read_full.Reads.Post κs a x e)
-    (s : a.0.now ≡ hex "AA BB") where
-  pub full_kept-byte : a.1.0 ≡ 1 → take 1 e.0.now ≡ hex "AA"
+module _ (T : RattleType) (L : Laws T) (g : Read.Ghosts T.Denot) (d : Dict) (κs : Lfts 3) (a : Dens κs (read_full.Kinds.ps T L)) (x : Got) (e : AtExit (ended_of 3 (read_full.Kinds.ps T L) (read_full.Kinds.r T L)) κs) (p : read_full.Reads.Post T L g d κs a x e)
+    (s : a.1.0.now ≡ hex "AA BB") where
+  pub full_kept-byte : a.1.1.0 ≡ 1 → take 1 e.1.0.now ≡ hex "AA"
   full_kept-byte k = (rw (s, k) at p).stays
 
   pub full_no-more_than_room : x.count ≤ 2
   full_no-more_than_room = (rw s at p).fits
 
 -- one that writes what may still leave room, or does not write what may leave none; one that goes on with what it has written; one that tries again
-module _ (κs : Lfts 1) (a : Dens κs with_room.Kinds.ps) (x : Out) (e : AtExit (ended_of 1 with_room.Kinds.ps with_room.Kinds.r) κs) (p : with_room.Reads.Post κs a x e) where
-  pub room-left : a.1.0.count ≡ 114000 → x.count ≡ 114000
+module _ (T : RattleType) (L : Laws T) (g : Print.Ghosts T.Denot) (d : Dict) (κs : Lfts 3) (a : Dens κs (with_room.Kinds.ps T L)) (x : Out) (e : AtExit (ended_of 3 (with_room.Kinds.ps T L) (with_room.Kinds.r T L)) κs) (p : with_room.Reads.Post T L g d κs a x e) where
+  pub room-left : a.1.1.0.count ≡ 114000 → x.count ≡ 114000
   room-left c = (rw c at p).0
 
-  pub no-room-left : a.1.0.count ≡ 114001 → x.count ≡ 0
+  pub no-room-left : a.1.1.0.count ≡ 114001 → x.count ≡ 0
   no-room-left c = (rw c at p).0
 
-module _ (κs : Lfts 1) (a : Dens κs write_out.Kinds.ps) (x : Out) (e : AtExit (ended_of 1 write_out.Kinds.ps write_out.Kinds.r) κs) (p : write_out.Reads.Post κs a x e) where
+module _ (T : RattleType) (L : Laws T) (g : Print.Ghosts T.Denot) (d : Dict) (κs : Lfts 3) (a : Dens κs (write_out.Kinds.ps T L)) (x : Out) (e : AtExit (ended_of 3 (write_out.Kinds.ps T L) (write_out.Kinds.r T L)) κs) (p : write_out.Reads.Post T L g d κs a x e) where
   pub nothing_left : x.count ≡ 0
   nothing_left = p.0
 
-  pub failed_for_good : a.1.0.works ≡ false → x.works ≡ false
+  pub failed_for_good : a.1.1.0.works ≡ false → x.works ≡ false
   failed_for_good = p.1

@@ -3,43 +3,49 @@ ghost use Rattle.std.specs.Prelude.{◌-◌, ◌≤◌, ◌<◌, ◌≡◌, leng
 ghost use Rattle.text.specs.Bytes.{part as part_of};
 ghost use Rattle.lines.specs.Input.{line_end, without_cr, with_front, ReadAfter};
 
-use libc::STDIN_FILENO;
+use std::io;
+use std::io::Read;
 use text::bytes::{part, same};
 use text::find::{Found, first_byte};
 
-// How many bytes there are, and whether the system failed to read more.
+// How many bytes there are, and why no more could be read, where reading failed.
 #[derive(Clone, Copy)]
 pub struct Got {
     pub count: usize,
-    pub failed: bool,
+    pub failed: Option<io::Error>,
 }
 
 // Reads once, after the bytes that are kept.
-pub fn read_after(input: &mut [u8], kept: usize) -> Got
+pub fn read_after<R: Read>(from: &mut R, input: &mut [u8], kept: usize) -> Got
     ensures { ReadAfter input.old kept result.count input.new }
 {
     if kept <= input.len() {
         let room = &mut input[kept..];
-        let got = libc::read(STDIN_FILENO, room);
-        Got {
-            count: kept + io::count(got, room),
-            failed: got < 0,
+        match from.read(room) {
+            Ok(n) => Got {
+                count: kept + n,
+                failed: None,
+            },
+            Err(e) => Got {
+                count: kept,
+                failed: Some(e),
+            },
         }
     } else {
         Got {
             count: input.len(),
-            failed: false,
+            failed: None,
         }
     }
 }
 
 // Reads until the buffer is full or the input ends, after the bytes that are kept.
-pub fn read_full(input: &mut [u8], kept: usize) -> Got
+pub fn read_full<R: Read>(from: &mut R, input: &mut [u8], kept: usize) -> Got
     ensures { ReadAfter input.old kept result.count input.new }
 {
     let mut count = kept;
     while count < input.len() {
-        let got = read_after(input, count);
+        let got = read_after(from, input, count);
         if got.count <= count {
             return got;
         }
@@ -47,7 +53,7 @@ pub fn read_full(input: &mut [u8], kept: usize) -> Got
     }
     Got {
         count: input.len(),
-        failed: false,
+        failed: None,
     }
 }
 

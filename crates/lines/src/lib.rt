@@ -1,4 +1,6 @@
 // What lines of text say, for programs that read them: bytes in hex, numbers, and standard input and output in pieces.
+#![tactic(auto)]
+
 pub mod hex;
 pub mod input;
 pub mod number;
