@@ -3,7 +3,7 @@ use Prim.Native.Nat.{◌-◌, ◌≤◌}
 use native.Mathlib.Nat.{add-sub_cancel_left}
 use native.Mathlib.Omega.{arith}
 use lib.Seq.{take_all, take-nil}
-use lib.ListN.{length, drop, take, drop_of_length-le, length-drop}
+use lib.ListN.{length, drop, drop_of_length-le, length-drop}
 use Rattle.text.specs.Bytes.{part}
 use Rattle.text.proofs.bytes.part.Goals as goal
 

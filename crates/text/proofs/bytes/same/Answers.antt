@@ -1,9 +1,6 @@
-use Prim.Native.Nat.{◌≤◌, ◌<◌, ◌-◌, ◌+◌}
-use mathlib.Core.Path.{◌≡◌, sym, ◌∙◌, ap}
+use mathlib.Core.Path.{sym}
 use native.Mathlib.Omega.{arith}
-use lib.ListN.{length, drop}
 use mathlib.Core.Path.{refl}
-use Rattle.text.specs.Bytes.{same}
 use Rattle.text.proofs.BytesLaws.{same_length, same_end, same_bad, same_more}
 use Rattle.text.proofs.bytes.same.Goals as goal
 

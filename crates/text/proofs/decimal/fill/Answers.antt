@@ -1,10 +1,9 @@
 use native.Mathlib.Omega.{arith}
-use mathlib.Core.Path.{◌≡◌, refl, ◌∙◌}
-use Prim.Native.Nat.{◌+◌, ◌-◌, ◌≤◌}
+use mathlib.Core.Path.{refl, ◌∙◌}
+use Prim.Native.Nat.{◌-◌}
 use lib.ListN.{length, length-set}
 use Rattle.text.specs.Decimal.{decimal}
-use Rattle.text.specs.Put.{placed}
-use Rattle.text.proofs.DecimalLaws.{long_last, long_more, filled, filled-whole, filled_more, filled_last}
+use Rattle.text.proofs.DecimalLaws.{long_last, long_more, filled-whole, filled_more, filled_last}
 use Rattle.text.proofs.decimal.fill.Goals as goal
 
 pub loop-m-init : goal.loop-m-init

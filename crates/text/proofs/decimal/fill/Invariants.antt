@@ -1,10 +1,9 @@
-use native.Mathlib.Omega.{arith}
-use mathlib.Core.Path.{◌≡◌, refl, ◌∙◌}
+use mathlib.Core.Path.{◌≡◌}
 use Prim.Native.Nat.{◌+◌, ◌-◌, ◌≤◌}
-use lib.ListN.{length, length-set}
+use lib.ListN.{length}
 use Rattle.text.specs.Decimal.{decimal}
 use Rattle.text.specs.Put.{placed}
-use Rattle.text.proofs.DecimalLaws.{long_last, long_more, filled, filled-whole, filled_more, filled_last}
+use Rattle.text.proofs.DecimalLaws.{filled}
 use Rattle.text.proofs.decimal.fill.Given as goal
 
 -- what is left of the number still goes between the number's place and `k`

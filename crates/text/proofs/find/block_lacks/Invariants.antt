@@ -1,10 +1,8 @@
 use Prim.Native.Nat.{◌+◌, ◌-◌, ◌≤◌}
 use mathlib.Core.Bool.{true}
 use mathlib.Core.List.{[], ◌∷◌}
-use Rattle.text.proofs.FindLaws.{from-no, byte_other}
 use Rattle.text.specs.Find.{first_from}
-use native.Mathlib.Omega.{arith}
-use mathlib.Core.Path.{◌≡◌, ◌∙◌}
+use mathlib.Core.Path.{◌≡◌}
 use Rattle.text.proofs.find.block_lacks.Given as goal
 
 abbrev pub invariant-loop-j : goal.invariant-loop-j

@@ -1,9 +1,7 @@
 use Prim.Native.Nat.{◌-◌, ◌≤◌}
 use mathlib.Core.List.{[], ◌∷◌}
-use Rattle.text.proofs.FindLaws.{from-yes, from-no, byte_here, byte_other}
 use Rattle.text.specs.Find.{first_from}
-use native.Mathlib.Omega.{arith}
-use mathlib.Core.Path.{◌≡◌, refl, ◌∙◌}
+use mathlib.Core.Path.{◌≡◌}
 use Rattle.text.proofs.find.byte_before.Given as goal
 
 abbrev pub invariant-loop-i : goal.invariant-loop-i

@@ -1,6 +1,5 @@
-use Prim.Native.Nat.{◌-◌, ◌≤◌}
 use Rattle.text.proofs.FindLaws.{from-yes, from-no}
-use Rattle.text.specs.Find.{crlf, first_from}
+use Rattle.text.specs.Find.{crlf}
 use native.Mathlib.Omega.{arith}
 use mathlib.Core.Path.{◌≡◌, refl, sym, ◌∙◌}
 use Rattle.text.proofs.find.crlf_before.Goals as goal

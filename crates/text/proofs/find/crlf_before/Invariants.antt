@@ -1,8 +1,6 @@
 use Prim.Native.Nat.{◌-◌, ◌≤◌}
-use Rattle.text.proofs.FindLaws.{from-yes, from-no}
 use Rattle.text.specs.Find.{crlf, first_from}
-use native.Mathlib.Omega.{arith}
-use mathlib.Core.Path.{◌≡◌, refl, sym, ◌∙◌}
+use mathlib.Core.Path.{◌≡◌}
 use Rattle.text.proofs.find.crlf_before.Given as goal
 
 abbrev pub invariant-loop-i : goal.invariant-loop-i

@@ -1,10 +1,8 @@
 use Rattle.text.proofs.FindLaws.{from_at, from_end, from_first, from-none}
-use Prim.Native.Nat.{◌-◌, ◌≤◌}
-use lib.ListN.{length}
-use Rattle.text.specs.Find.{crlf, first_from}
+use Rattle.text.specs.Find.{crlf}
 use mathlib.Core.List.{[], ◌∷◌}
 use native.Mathlib.Omega.{arith}
-use mathlib.Core.Path.{◌≡◌, refl, sym, ◌∙◌}
+use mathlib.Core.Path.{refl, sym, ◌∙◌}
 use Rattle.text.proofs.find.far_crlf.Goals as goal
 
 pub loop-i-init : goal.loop-i-init

@@ -1,10 +1,7 @@
-use Rattle.text.proofs.FindLaws.{from_at, from_end, from_first, from-none}
 use Prim.Native.Nat.{◌-◌, ◌≤◌}
 use lib.ListN.{length}
 use Rattle.text.specs.Find.{crlf, first_from}
-use mathlib.Core.List.{[], ◌∷◌}
-use native.Mathlib.Omega.{arith}
-use mathlib.Core.Path.{◌≡◌, refl, sym, ◌∙◌}
+use mathlib.Core.Path.{◌≡◌}
 use Rattle.text.proofs.find.far_crlf.Given as goal
 
 abbrev pub invariant-loop-i : goal.invariant-loop-i

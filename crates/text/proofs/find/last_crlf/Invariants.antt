@@ -1,9 +1,7 @@
 use Prim.Native.Nat.{◌≤◌}
 use lib.ListN.{length}
-use Rattle.text.proofs.FindLaws.{below_yes, below_no, below_end}
 use Rattle.text.specs.Find.{crlf, last_of, last_below}
-use native.Mathlib.Omega.{arith}
-use mathlib.Core.Path.{◌≡◌, refl, sym, ◌∙◌}
+use mathlib.Core.Path.{◌≡◌}
 use Rattle.text.proofs.find.last_crlf.Given as goal
 
 abbrev pub invariant-loop-i : goal.invariant-loop-i

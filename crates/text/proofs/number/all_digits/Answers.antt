@@ -1,9 +1,5 @@
-use Prim.Native.Nat.{◌-◌}
-use mathlib.Core.Path.{◌≡◌, refl, sym, ◌∙◌}
+use mathlib.Core.Path.{refl, sym, ◌∙◌}
 use native.Mathlib.Omega.{arith}
-use lib.ListN.{length, drop}
-use Rattle.text.specs.Bytes.{every}
-use Rattle.text.specs.Number.{is_digit}
 use Rattle.text.proofs.NumberLaws.{all_end, all_bad, all_more}
 use Rattle.text.proofs.number.all_digits.Goals as goal
 

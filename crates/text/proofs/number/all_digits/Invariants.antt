@@ -1,10 +1,8 @@
 use Prim.Native.Nat.{◌-◌}
-use mathlib.Core.Path.{◌≡◌, refl, sym, ◌∙◌}
-use native.Mathlib.Omega.{arith}
+use mathlib.Core.Path.{◌≡◌}
 use lib.ListN.{length, drop}
 use Rattle.text.specs.Bytes.{every}
 use Rattle.text.specs.Number.{is_digit}
-use Rattle.text.proofs.NumberLaws.{all_end, all_bad, all_more}
 use Rattle.text.proofs.number.all_digits.Given as goal
 
 abbrev pub invariant-loop-i : goal.invariant-loop-i

@@ -1,9 +1,9 @@
-use Prim.Native.Nat.{◌≤◌, ◌<◌, ◌-◌, ◌+◌}
+use Prim.Native.Nat.{◌≤◌, ◌+◌}
 use mathlib.Core.Path.{◌≡◌, sym, ◌∙◌}
 use mathlib.Core.Bool.{true}
 use native.Mathlib.Omega.{arith}
-use lib.ListN.{length, drop, get_or}
-use Rattle.text.specs.Number.{is_digit, under, digits_from, digits}
+use lib.ListN.{drop, get_or}
+use Rattle.text.specs.Number.{is_digit}
 use Rattle.text.proofs.NumberLaws.{too_large_lem, digits-none, digits_start, digits-end, digits_bad, digits_more, digit-code}
 use Rattle.text.proofs.number.digits_from.Goals as goal
 use Rattle.text.proofs.number.digits_from.Goals.{Then-is_digit}

@@ -1,10 +1,7 @@
-use Prim.Native.Nat.{◌≤◌, ◌<◌, ◌-◌, ◌+◌}
-use mathlib.Core.Path.{◌≡◌, sym, ◌∙◌}
-use mathlib.Core.Bool.{true}
-use native.Mathlib.Omega.{arith}
-use lib.ListN.{length, drop, get_or}
-use Rattle.text.specs.Number.{is_digit, under, digits_from, digits}
-use Rattle.text.proofs.NumberLaws.{too_large_lem, digits-none, digits_start, digits-end, digits_bad, digits_more, digit-code}
+use Prim.Native.Nat.{◌<◌, ◌-◌}
+use mathlib.Core.Path.{◌≡◌}
+use lib.ListN.{length, drop}
+use Rattle.text.specs.Number.{under, digits_from, digits}
 use Rattle.text.proofs.number.digits_from.Given as goal
 
 abbrev pub invariant-loop-i : goal.invariant-loop-i

@@ -1,9 +1,7 @@
-use native.Mathlib.Omega.{arith}
-use mathlib.Core.Path.{◌≡◌, refl, ◌∙◌}
+use mathlib.Core.Path.{◌≡◌}
 use Prim.Native.Nat.{◌-◌, ◌≤◌}
-use lib.ListN.{length, length-set}
-use lib.Seq.{paste, paste-zero}
-use Rattle.text.proofs.PutLaws.{paste-first, paste_more}
+use lib.ListN.{length}
+use lib.Seq.{paste}
 use Rattle.text.proofs.put.copy.Given as goal
 
 abbrev pub invariant-loop-j : goal.invariant-loop-j

@@ -1,5 +1,4 @@
 use Rattle.text.specs.Utf8.{table}
-use borrow.Author.Tests.{not-false}
 use Rattle.text.proofs.Utf8Laws as rows
 use mathlib.Core.Bool.{false≢true}
 use Rattle.text.proofs.SkimLaws.{four_there, between}

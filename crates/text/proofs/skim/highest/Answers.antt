@@ -1,7 +1,6 @@
 use Rattle.text.proofs.SkimLaws.{bounds_more}
 use native.Mathlib.Omega.{arith}
-use lib.ListN.{get_or}
-use Prim.Native.Nat.{ℕ, ◌+◌, ◌-◌, ◌≤◌, ◌<◌}
+use Prim.Native.Nat.{◌+◌}
 use Rattle.text.proofs.skim.highest.Goals as goal
 
 pub loop-j-init : goal.loop-j-init

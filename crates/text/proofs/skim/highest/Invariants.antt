@@ -1,5 +1,3 @@
-use Rattle.text.proofs.SkimLaws.{bounds_more}
-use native.Mathlib.Omega.{arith}
 use lib.ListN.{get_or}
 use Prim.Native.Nat.{ℕ, ◌+◌, ◌-◌, ◌≤◌, ◌<◌}
 use Rattle.text.proofs.skim.highest.Given as goal

@@ -1,7 +1,5 @@
 use Rattle.text.proofs.SkimLaws.{stays, onward, past_bounded}
-use Rattle.text.specs.Skim.{WellFormed}
 use native.Mathlib.Omega.{arith}
-use Prim.Native.Nat.{◌-◌, ◌≤◌}
 use Rattle.text.proofs.skim.past_blocks.Goals as goal
 
 pub loop-i-init : goal.loop-i-init

@@ -1,6 +1,4 @@
-use Rattle.text.proofs.SkimLaws.{stays, onward, past_one}
 use Rattle.text.specs.Skim.{WellFormed}
-use native.Mathlib.Omega.{arith}
 use Prim.Native.Nat.{◌-◌, ◌≤◌}
 use Rattle.text.proofs.skim.past_plain.Given as goal
 

@@ -1,8 +1,5 @@
 use Rattle.text.proofs.SkimLaws.{stays, onward, past_one, past_two, past_three, past_four}
-use Rattle.text.specs.Skim.{WellFormed}
-use borrow.Author.Tests.{not-false}
 use native.Mathlib.Omega.{arith}
-use Prim.Native.Nat.{◌-◌}
 use Rattle.text.proofs.skim.past_sequences.Goals as goal
 
 pub loop-i-init : goal.loop-i-init

@@ -1,5 +1,4 @@
 use Rattle.text.proofs.SkimLaws.{stays, onward, past_bounded}
-use Rattle.text.specs.Skim.{WellFormed}
 use native.Mathlib.Omega.{arith}
 use lib.ListN.{length}
 use Prim.Native.Nat.{◌+◌, ◌-◌}

@@ -1,9 +1,5 @@
-use Rattle.text.proofs.SkimLaws.{stays, onward, past_bounded}
 use Rattle.text.specs.Skim.{WellFormed}
-use native.Mathlib.Omega.{arith}
-use lib.ListN.{length}
-use Prim.Native.Nat.{◌+◌, ◌-◌}
-use mathlib.Core.Path.{◌≡◌}
+use Prim.Native.Nat.{◌-◌}
 use Rattle.text.proofs.skim.skim.Given as goal
 
 abbrev pub invariant-loop-i : goal.invariant-loop-i

@@ -1,12 +1,7 @@
-use borrow.Author.Tests.{not-true, not-false}
 use Rattle.text.proofs.Utf8Laws.{going-no, going-yes}
-use mathlib.Core.Path.{ap, subst}
 use native.Mathlib.Omega.{arith}
-use mathlib.Core.Path.{◌≡◌, refl, sym, ◌∙◌}
-use lib.ListN.{length, drop}
-use Rattle.text.specs.Utf8.{fits}
-use Rattle.text.specs.Utf8Steps.{going}
-use Rattle.text.proofs.Utf8Laws.{going_step, going_end}
+use mathlib.Core.Path.{◌≡◌, sym, ◌∙◌}
+use Rattle.text.proofs.Utf8Laws.{going_end}
 use Rattle.text.proofs.utf8.goes_on.Goals as goal
 
 pub returns-then-s-at : goal.returns-then-s-at

@@ -1,7 +1,6 @@
-use mathlib.Core.Path.{sym, ◌∙◌, ap}
+use mathlib.Core.Path.{sym}
 use native.Mathlib.Omega.{arith}
 use lib.ListN.{drop_of_length-le}
-use borrow.Author.Tests.{not-true, not-false}
 use Rattle.text.specs.Utf8.{seq_len}
 use Rattle.text.proofs.Utf8Laws.{seq_short, seq_first-no, seq_rest-no, seq_whole}
 use Rattle.text.proofs.utf8.sequence.Goals as goal

@@ -1,9 +1,6 @@
 use native.Mathlib.Omega.{arith}
 use native.Mathlib.Nat.{zero-add}
-use mathlib.Core.Path.{◌≡◌, sym, ◌∙◌}
-use Prim.Native.Nat.{◌+◌, ◌-◌, ◌≤◌}
-use lib.ListN.{length, drop}
-use Rattle.text.specs.Utf8.{valid_up_to}
+use mathlib.Core.Path.{sym, ◌∙◌}
 use Rattle.text.proofs.Utf8Laws.{valid_at-end, valid_stop, valid_step, seq_len-at}
 use Rattle.text.proofs.utf8.valid_up_to.Goals as goal
 

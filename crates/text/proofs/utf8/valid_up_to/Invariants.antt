@@ -1,10 +1,7 @@
-use native.Mathlib.Omega.{arith}
-use native.Mathlib.Nat.{zero-add}
-use mathlib.Core.Path.{◌≡◌, sym, ◌∙◌}
+use mathlib.Core.Path.{◌≡◌}
 use Prim.Native.Nat.{◌+◌, ◌-◌, ◌≤◌}
 use lib.ListN.{length, drop}
 use Rattle.text.specs.Utf8.{valid_up_to}
-use Rattle.text.proofs.Utf8Laws.{valid_at-end, valid_stop, valid_step, seq_len-at}
 use Rattle.text.proofs.utf8.valid_up_to.Given as goal
 
 abbrev pub invariant-loop-i : goal.invariant-loop-i
