@@ -1,5 +1,7 @@
 // Classic pcap captures of EDM frames: microseconds, version 2.4, link type 147 (USER0). They are read in either byte order and written little-endian.
 // One call reads or writes the header or one record, so a caller needs to hold no more than one record of 4,115 bytes.
+#![tactic(auto)]
+
 mod number;
 pub mod read;
 pub mod write;
