@@ -3,77 +3,77 @@ use crate::show::{found, hex, line, number, quoted, refused, say, wrote, yes_or_
 use text::field::{Fields, Next};
 use text::number::{Number8, Number16, Number32};
 
-pub(crate) fn valid(s: &[u8]) {
-    say(b"valid_up_to");
-    hex(s);
-    say(b": ");
-    number(text::utf8::valid_up_to(s));
-    line();
+pub(crate) fn valid(rt: &(impl Print + Eprint), s: &[u8]) {
+    say(rt, b"valid_up_to");
+    hex(rt, s);
+    say(rt, b": ");
+    number(rt, text::utf8::valid_up_to(s));
+    line(rt);
 }
 
-pub(crate) fn whole(s: &[u8]) {
-    say(b"is_utf8");
-    hex(s);
-    say(b": ");
-    yes_or_no(text::utf8::is_utf8(s));
+pub(crate) fn whole(rt: &(impl Print + Eprint), s: &[u8]) {
+    say(rt, b"is_utf8");
+    hex(rt, s);
+    say(rt, b": ");
+    yes_or_no(rt, text::utf8::is_utf8(s));
 }
 
-pub(crate) fn inside(s: &[u8], place: usize) {
-    say(b"inside_character");
-    hex(s);
-    say(b" at ");
-    number(place);
-    say(b": ");
-    yes_or_no(text::utf8::inside_character(s, place));
+pub(crate) fn inside(rt: &(impl Print + Eprint), s: &[u8], place: usize) {
+    say(rt, b"inside_character");
+    hex(rt, s);
+    say(rt, b" at ");
+    number(rt, place);
+    say(rt, b": ");
+    yes_or_no(rt, text::utf8::inside_character(s, place));
 }
 
-pub(crate) fn in_8_bits(s: &[u8]) {
-    say(b"read8 ");
-    quoted(s);
-    say(b": ");
+pub(crate) fn in_8_bits(rt: &(impl Print + Eprint), s: &[u8]) {
+    say(rt, b"read8 ");
+    quoted(rt, s);
+    say(rt, b": ");
     match text::number::read8(s) {
-        Number8::Value(n) => number(n as usize),
-        Number8::Refused(e) => refused(e),
+        Number8::Value(n) => number(rt, n as usize),
+        Number8::Refused(e) => refused(rt, e),
     }
-    line();
+    line(rt);
 }
 
-pub(crate) fn in_16_bits(s: &[u8]) {
-    say(b"read16 ");
-    quoted(s);
-    say(b": ");
+pub(crate) fn in_16_bits(rt: &(impl Print + Eprint), s: &[u8]) {
+    say(rt, b"read16 ");
+    quoted(rt, s);
+    say(rt, b": ");
     match text::number::read16(s) {
-        Number16::Value(n) => number(n as usize),
-        Number16::Refused(e) => refused(e),
+        Number16::Value(n) => number(rt, n as usize),
+        Number16::Refused(e) => refused(rt, e),
     }
-    line();
+    line(rt);
 }
 
-pub(crate) fn in_32_bits(s: &[u8]) {
-    say(b"read32 ");
-    quoted(s);
-    say(b": ");
+pub(crate) fn in_32_bits(rt: &(impl Print + Eprint), s: &[u8]) {
+    say(rt, b"read32 ");
+    quoted(rt, s);
+    say(rt, b": ");
     match text::number::read32(s) {
-        Number32::Value(n) => number(n as usize),
-        Number32::Refused(e) => refused(e),
+        Number32::Value(n) => number(rt, n as usize),
+        Number32::Refused(e) => refused(rt, e),
     }
-    line();
+    line(rt);
 }
 
 // Every width on one text.
-pub(crate) fn read(s: &[u8]) {
-    in_8_bits(s);
-    in_16_bits(s);
-    in_32_bits(s);
+pub(crate) fn read(rt: &(impl Print + Eprint), s: &[u8]) {
+    in_8_bits(rt, s);
+    in_16_bits(rt, s);
+    in_32_bits(rt, s);
 }
 
 // The field at a place, and the place that the walk stands at afterwards.
-fn field(s: &[u8], at: usize) -> usize {
+fn field(rt: &(impl Print + Eprint), s: &[u8], at: usize) -> usize {
     match Fields::from(at).next(s) {
         Next::Field { start, len, rest } => {
-            say(b" ");
-            number(start);
-            quoted(text::bytes::part(s, start, len));
+            say(rt, b" ");
+            number(rt, start);
+            quoted(rt, text::bytes::part(s, start, len));
             rest.at
         }
         Next::Done => at,
@@ -81,121 +81,121 @@ fn field(s: &[u8], at: usize) -> usize {
 }
 
 // The first eight fields from a place on, each after its place.
-pub(crate) fn fields(s: &[u8], from: usize) {
-    say(b"fields ");
-    quoted(s);
-    say(b" from ");
-    number(from);
-    say(b":");
+pub(crate) fn fields(rt: &(impl Print + Eprint), s: &[u8], from: usize) {
+    say(rt, b"fields ");
+    quoted(rt, s);
+    say(rt, b" from ");
+    number(rt, from);
+    say(rt, b":");
     let mut at = from;
     let mut turns: usize = 0;
     while turns < 8 {
-        at = field(s, at);
+        at = field(rt, s, at);
         turns += 1;
     }
-    line();
+    line(rt);
 }
 
-pub(crate) fn first(s: &[u8], from: usize) {
-    say(b"first_crlf");
-    hex(s);
-    say(b" from ");
-    number(from);
-    say(b": ");
-    found(text::find::first_crlf(s, from));
+pub(crate) fn first(rt: &(impl Print + Eprint), s: &[u8], from: usize) {
+    say(rt, b"first_crlf");
+    hex(rt, s);
+    say(rt, b" from ");
+    number(rt, from);
+    say(rt, b": ");
+    found(rt, text::find::first_crlf(s, from));
 }
 
-pub(crate) fn last(s: &[u8]) {
-    say(b"last_crlf");
-    hex(s);
-    say(b": ");
-    found(text::find::last_crlf(s));
+pub(crate) fn last(rt: &(impl Print + Eprint), s: &[u8]) {
+    say(rt, b"last_crlf");
+    hex(rt, s);
+    say(rt, b": ");
+    found(rt, text::find::last_crlf(s));
 }
 
-pub(crate) fn colon(s: &[u8]) {
-    say(b"first_byte : in ");
-    quoted(s);
-    say(b": ");
-    found(text::find::first_byte(s, 0, b':'));
+pub(crate) fn colon(rt: &(impl Print + Eprint), s: &[u8]) {
+    say(rt, b"first_byte : in ");
+    quoted(rt, s);
+    say(rt, b": ");
+    found(rt, text::find::first_byte(s, 0, b':'));
 }
 
 // Dots, and what is written over them.
-pub(crate) fn long_in_decimal(n: u32, at: usize) {
+pub(crate) fn long_in_decimal(rt: &(impl Print + Eprint), n: u32, at: usize) {
     let mut buf = [b'.'; 12];
-    say(b"write32 ");
-    number(n as usize);
-    say(b" at ");
-    number(at);
-    say(b": ");
-    wrote(text::decimal::write32(&mut buf, at, n));
-    quoted(&buf);
-    line();
+    say(rt, b"write32 ");
+    number(rt, n as usize);
+    say(rt, b" at ");
+    number(rt, at);
+    say(rt, b": ");
+    wrote(rt, text::decimal::write32(&mut buf, at, n));
+    quoted(rt, &buf);
+    line(rt);
 }
 
-pub(crate) fn in_decimal(n: u16, at: usize) {
+pub(crate) fn in_decimal(rt: &(impl Print + Eprint), n: u16, at: usize) {
     let mut buf = [b'.'; 8];
-    say(b"write16 ");
-    number(n as usize);
-    say(b" at ");
-    number(at);
-    say(b": ");
-    wrote(text::decimal::write16(&mut buf, at, n));
-    quoted(&buf);
-    line();
+    say(rt, b"write16 ");
+    number(rt, n as usize);
+    say(rt, b" at ");
+    number(rt, at);
+    say(rt, b": ");
+    wrote(rt, text::decimal::write16(&mut buf, at, n));
+    quoted(rt, &buf);
+    line(rt);
 }
 
-pub(crate) fn byte_in_decimal(n: u8, at: usize) {
+pub(crate) fn byte_in_decimal(rt: &(impl Print + Eprint), n: u8, at: usize) {
     let mut buf = [b'.'; 8];
-    say(b"write8 ");
-    number(n as usize);
-    say(b" at ");
-    number(at);
-    say(b": ");
-    wrote(text::decimal::write8(&mut buf, at, n));
-    quoted(&buf);
-    line();
+    say(rt, b"write8 ");
+    number(rt, n as usize);
+    say(rt, b" at ");
+    number(rt, at);
+    say(rt, b": ");
+    wrote(rt, text::decimal::write8(&mut buf, at, n));
+    quoted(rt, &buf);
+    line(rt);
 }
 
-pub(crate) fn put(s: &[u8], at: usize) {
+pub(crate) fn put(rt: &(impl Print + Eprint), s: &[u8], at: usize) {
     let mut buf = [b'.'; 8];
-    say(b"put ");
-    quoted(s);
-    say(b" at ");
-    number(at);
-    say(b": ");
-    wrote(text::put::put(&mut buf, at, s));
-    quoted(&buf);
-    line();
+    say(rt, b"put ");
+    quoted(rt, s);
+    say(rt, b" at ");
+    number(rt, at);
+    say(rt, b": ");
+    wrote(rt, text::put::put(&mut buf, at, s));
+    quoted(rt, &buf);
+    line(rt);
 }
 
-pub(crate) fn part(s: &[u8], start: usize, len: usize) {
-    say(b"part ");
-    quoted(s);
-    say(b" from ");
-    number(start);
-    say(b" of ");
-    number(len);
-    say(b": ");
-    quoted(text::bytes::part(s, start, len));
-    line();
+pub(crate) fn part(rt: &(impl Print + Eprint), s: &[u8], start: usize, len: usize) {
+    say(rt, b"part ");
+    quoted(rt, s);
+    say(rt, b" from ");
+    number(rt, start);
+    say(rt, b" of ");
+    number(rt, len);
+    say(rt, b": ");
+    quoted(rt, text::bytes::part(s, start, len));
+    line(rt);
 }
 
-pub(crate) fn same(a: &[u8], b: &[u8]) {
-    say(b"same ");
-    quoted(a);
-    say(b" ");
-    quoted(b);
-    say(b": ");
-    yes_or_no(text::bytes::same(a, b));
+pub(crate) fn same(rt: &(impl Print + Eprint), a: &[u8], b: &[u8]) {
+    say(rt, b"same ");
+    quoted(rt, a);
+    say(rt, b" ");
+    quoted(rt, b);
+    say(rt, b": ");
+    yes_or_no(rt, text::bytes::same(a, b));
 }
 
-pub(crate) fn starts(s: &[u8], at: usize, t: &[u8]) {
-    say(b"starts_at ");
-    quoted(s);
-    say(b" at ");
-    number(at);
-    say(b" with ");
-    quoted(t);
-    say(b": ");
-    yes_or_no(text::bytes::starts_at(s, at, t));
+pub(crate) fn starts(rt: &(impl Print + Eprint), s: &[u8], at: usize, t: &[u8]) {
+    say(rt, b"starts_at ");
+    quoted(rt, s);
+    say(rt, b" at ");
+    number(rt, at);
+    say(rt, b" with ");
+    quoted(rt, t);
+    say(rt, b": ");
+    yes_or_no(rt, text::bytes::starts_at(s, at, t));
 }

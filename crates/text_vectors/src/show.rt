@@ -1,39 +1,40 @@
 // What the program writes: texts, bytes in hex, numbers, answers.
-use libc::STDOUT_FILENO;
 use text::find::Found;
 use text::number::NumberError;
 use text::put::Wrote;
 
 // Whether all of `s` was written. Where it was not, a line on standard error says why.
-pub(crate) fn say(s: &[u8]) -> bool {
-    if io::write_all(STDOUT_FILENO, s) {
-        return true;
+pub(crate) fn say(rt: &(impl Print + Eprint), s: &[u8]) -> bool {
+    match rt.write_all(s) {
+        Ok(()) => true,
+        Err(e) => {
+            let _ = eprintln!(rt; "text_vectors: cannot write standard output: {e}");
+            false
+        }
     }
-    os::fail(b"text_vectors: cannot write standard output");
-    false
 }
 
-pub(crate) fn number(n: usize) {
+pub(crate) fn number(rt: &(impl Print + Eprint), n: usize) {
     let mut digits = [0u8; 20];
     let k = io::decimal(n as u64, &mut digits);
-    say(&digits[..k]);
+    say(rt, &digits[..k]);
 }
 
-pub(crate) fn line() {
-    say(b"\n");
+pub(crate) fn line(rt: &(impl Print + Eprint)) {
+    say(rt, b"\n");
 }
 
-pub(crate) fn quoted(s: &[u8]) {
-    say(b"\"");
-    say(s);
-    say(b"\"");
+pub(crate) fn quoted(rt: &(impl Print + Eprint), s: &[u8]) {
+    say(rt, b"\"");
+    say(rt, s);
+    say(rt, b"\"");
 }
 
-pub(crate) fn yes_or_no(b: bool) {
+pub(crate) fn yes_or_no(rt: &(impl Print + Eprint), b: bool) {
     if b {
-        say(b"yes\n");
+        say(rt, b"yes\n");
     } else {
-        say(b"no\n");
+        say(rt, b"no\n");
     }
 }
 
@@ -46,53 +47,53 @@ fn digit(n: u8) -> u8 {
 }
 
 // Each byte as a space and two digits.
-pub(crate) fn hex(s: &[u8]) {
+pub(crate) fn hex(rt: &(impl Print + Eprint), s: &[u8]) {
     let mut i = 0;
     while i < s.len() {
         let b = s[i];
         let two = [b' ', digit(b / 16), digit(b % 16)];
-        say(&two);
+        say(rt, &two);
         i += 1;
     }
 }
 
 // Why a text is no number.
-pub(crate) fn refused(e: NumberError) {
+pub(crate) fn refused(rt: &(impl Print + Eprint), e: NumberError) {
     match e {
         NumberError::Empty => {
-            say(b"refused empty");
+            say(rt, b"refused empty");
         }
         NumberError::Byte => {
-            say(b"refused byte");
+            say(rt, b"refused byte");
         }
         NumberError::Large => {
-            say(b"refused large");
+            say(rt, b"refused large");
         }
     }
 }
 
-pub(crate) fn found(f: Found) {
+pub(crate) fn found(rt: &(impl Print + Eprint), f: Found) {
     match f {
         Found::At(i) => {
-            say(b"at ");
-            number(i);
+            say(rt, b"at ");
+            number(rt, i);
         }
         Found::Nothing => {
-            say(b"nothing");
+            say(rt, b"nothing");
         }
     }
-    line();
+    line(rt);
 }
 
-pub(crate) fn wrote(w: Wrote) {
+pub(crate) fn wrote(rt: &(impl Print + Eprint), w: Wrote) {
     match w {
         Wrote::To(end) => {
-            say(b"to ");
-            number(end);
+            say(rt, b"to ");
+            number(rt, end);
         }
         Wrote::NoRoom => {
-            say(b"no room");
+            say(rt, b"no room");
         }
     }
-    say(b", ");
+    say(rt, b", ");
 }
