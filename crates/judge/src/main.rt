@@ -2,9 +2,11 @@
 ghost use Rattle.std.specs.Prelude.{◌≤◌, ◌≡◌, length, take};
 ghost use Rattle.judge.specs.Judgement.{judgement};
 
-use libc::{STDERR_FILENO, STDOUT_FILENO};
 use lines::input::read_full;
+use lines::output::say_failure;
 use render::word::word;
+use std::env::{Env, FillError};
+use std::io::Read;
 use text::bytes::part;
 
 // Puts the line at the start of `line`, and answers its length. Each byte of the frame is two digits at most, and the rest of a line, with its
@@ -18,24 +20,35 @@ fn judge(line: &mut [u8], input: &[u8]) -> usize
     word(line, end, b"\n")
 }
 
-fn main() {
+// Whether there is an argument beside the program's name.
+fn has_argument(rt: &impl Env) -> bool {
+    let mut given = [0u8; 1];
+    match rt.arg(1, &mut given) {
+        Ok(_) => true,
+        Err(FillError::TooLong) => true,
+        Err(FillError::NotPresent) => false,
+    }
+}
+
+fn run(rt: &(impl Print + Eprint + Env), from: &mut impl Read) {
     // A name of a file would go unread, and the line would then be about other bytes.
-    if 1 < os::arg_count() {
-        io::write_all(
-            STDERR_FILENO,
-            b"judge: takes no argument, reads the frame from standard input\n",
-        );
+    if has_argument(rt) {
+        let _ = eprintln!(rt; "judge: takes no argument, reads the frame from standard input");
         return;
     }
     let mut input = [0u8; 4100];
-    let got = read_full(&mut input, 0);
-    if got.failed {
-        os::fail(b"judge: cannot read standard input");
+    let got = read_full(from, &mut input, 0);
+    if got.failed.is_some() {
+        say_failure(rt, "judge: cannot read standard input", got.failed);
         return;
     }
     let mut line = [0u8; 8400];
     let n = judge(&mut line, part(&input, 0, got.count));
-    if !io::write_all(STDOUT_FILENO, part(&line, 0, n)) {
-        os::fail(b"judge: cannot write standard output");
+    if let Err(e) = rt.write_all(part(&line, 0, n)) {
+        say_failure(rt, "judge: cannot write standard output", Some(e));
     }
+}
+
+fn main(rt: HostRuntime) {
+    run(&rt, &mut rt.stdin());
 }
