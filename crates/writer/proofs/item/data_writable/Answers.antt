@@ -1,5 +1,6 @@
 use Rattle.writer.proofs.item.data_writable.Goals as goal
 
+-- `item::data_writable` meets its contract. Assumes nothing.
 pub returns-then-has_part : goal.returns-then-has_part
 returns-then-has_part c = rw (c.in-Place.is, ← c.has_part.ensures, c.if-has_part.true)
 

@@ -2,6 +2,7 @@ use mathlib.Core.Path.{ap}
 use lib.ListN.{length}
 use Rattle.writer.proofs.item.item_len.Goals as goal
 
+-- `item::item_len` meets its contract. Assumes nothing.
 pub returns-in-Number : goal.returns-in-Number
 returns-in-Number c = rw c.in-Number.is c.width.ensures
 

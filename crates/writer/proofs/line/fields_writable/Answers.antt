@@ -1,12 +1,10 @@
 use borrow.Author.Rules.{rules}
-use borrow.Author.Tests.{not-true, not-false}
 use mathlib.Core.List.{[], ◌∷◌}
 use mathlib.Core.Path.{◌≡◌, refl, sym, ◌∙◌}
-use Prim.Native.Nat.{◌+◌, ◌-◌, ◌≤◌}
+use Prim.Native.Nat.{◌+◌}
 use native.Mathlib.Omega.{arith}
 use lib.ListN.{take, drop}
 use Rattle.at.specs.Parts.{value_of, values_of}
-use Rattle.writer.specs.Write.{writable_fields}
 use Rattle.writer.proofs.FieldsLaws.{values-next, values-end, writable-next, writable-stop, writable-none}
 use Rattle.writer.proofs.line.fields_writable.Goals as goal
 use Rattle.writer.proofs.line.fields_writable.Goals.{After-item_writable}

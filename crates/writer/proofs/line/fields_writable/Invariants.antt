@@ -1,12 +1,8 @@
-use borrow.Author.Tests.{not-true, not-false}
-use mathlib.Core.List.{[], ◌∷◌}
-use mathlib.Core.Path.{◌≡◌, refl, sym, ◌∙◌}
-use Prim.Native.Nat.{◌+◌, ◌-◌, ◌≤◌}
-use native.Mathlib.Omega.{arith}
+use mathlib.Core.Path.{◌≡◌}
+use Prim.Native.Nat.{◌-◌, ◌≤◌}
 use lib.ListN.{take, drop}
-use Rattle.at.specs.Parts.{value_of, values_of}
+use Rattle.at.specs.Parts.{values_of}
 use Rattle.writer.specs.Write.{writable_fields}
-use Rattle.writer.proofs.FieldsLaws.{values-next, values-end, writable-next, writable-stop, writable-none}
 use Rattle.writer.proofs.line.fields_writable.Given as goal
 
 -- `line::fields_writable` meets its contract. The invariant: whether the fields can be written is whether those from `i` on can. Assumes nothing.

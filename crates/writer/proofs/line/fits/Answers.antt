@@ -12,7 +12,7 @@ use Rattle.writer.specs.Steps.{field_texts, line_as}
 use Rattle.writer.proofs.LineLaws.{line_length, ending-data, ending-crlf}
 use Rattle.writer.proofs.RoomLaws.{left_is, none_left, fits_after}
 use Rattle.writer.proofs.line.fits.Goals as goal
-use Rattle.writer.proofs.line.fits.Goals.{In-Left-2, In-Left-room_after_fields-2, Start, Then-n-value_count}
+use Rattle.writer.proofs.line.fits.Goals.{In-Left, In-Left-room_after_fields, Start, Then-n-value_count}
 
 -- `line::fits` meets its contract: the room after each part of the line is the room without it. Assumes nothing.
 pub overflow_add-name : goal.overflow_add-name
@@ -29,26 +29,28 @@ too_long_lem c h = sym (lt-leb (length (line_as c.args.src.now c.args.name.now c
 
 pub returns-in_default : goal.returns-in_default
 returns-in_default c =
+    let past = goal.at.returns-in_default c in
     let over = none_left c.args.room (2 + length c.args.name.now) (rw c.in_default.is at c.less.ensures) in
-    too_long_lem (goal.at.returns-in_default c).Start (omega (arith, size (goal.at.returns-in_default c).Start))
+    too_long_lem past.Start (omega (arith, size past.Start))
 
 -- the room after the head, and after the fields
-after-head : (c : In-Left-2) → 2 + length c.args.name.now + c.in-Left.after_head ≡ c.args.room
+after-head : (c : In-Left) → 2 + length c.args.name.now + c.in-Left.after_head ≡ c.args.room
 after-head c =
     left_is c.args.room (2 + length c.args.name.now) c.in-Left.after_head (rw c.in-Left.is at c.less.ensures)
 
-after-fields : (c : In-Left-room_after_fields-2)
+after-fields : (c : In-Left-room_after_fields) → 2 + length c.args.name.now + c.in-Left.after_head ≡ c.args.room
     → 2 + length c.args.name.now + length (after_name (field_texts c.args.src.now c.args.n (values_of c.args.p))) + c.in-Left-room_after_fields.after_fields ≡ c.args.room
-after-fields c =
+after-fields c head =
     let k : ℕ = length (after_name (field_texts c.args.src.now c.args.n (values_of c.args.p))) in
     let l = left_is c.in-Left.after_head k c.in-Left-room_after_fields.after_fields (rw c.in-Left-room_after_fields.is at c.room_after_fields.ensures) in
-    omega (arith, after-head c)
+    omega arith
 
 pub returns-in_default-room_after_fields : goal.returns-in_default-room_after_fields
 returns-in_default-room_after_fields c =
+    let past = goal.at.returns-in_default-room_after_fields c in
     let k : ℕ = length (after_name (field_texts c.args.src.now c.args.n (values_of c.args.p))) in
     let over = none_left c.in-Left.after_head k (rw c.in_default-room_after_fields.is at c.room_after_fields.ensures) in
-    too_long_lem (goal.at.returns-in_default-room_after_fields c).Start (omega (arith, size (goal.at.returns-in_default-room_after_fields c).Start, after-head (goal.at.returns-in_default-room_after_fields c).In-Left-2))
+    too_long_lem past.Start (omega (arith, size past.Start, after-head past.In-Left))
 
 -- there are data after the fields
 marked : (c : Then-n-value_count) → c.args.n < length (values_of c.args.p)
@@ -56,27 +58,30 @@ marked c = rw c.value_count.ensures at c.if-n-value_count.true
 
 pub returns-in_default-less : goal.returns-in_default-less
 returns-in_default-less c =
+    let past = goal.at.returns-in_default-less c in
     let s = c.args.src.now in
     let vs = values_of c.args.p in
     let over = none_left c.in-Left-room_after_fields.after_fields 3 (rw c.in_default-less.is at c.less-then-n-value_count.ensures) in
-    let e = ap length (ending-data s c.args.n vs (marked (goal.at.returns-in_default-less c).Then-n-value_count) _ refl) in
-    too_long_lem (goal.at.returns-in_default-less c).Start (omega (arith, size (goal.at.returns-in_default-less c).Start, after-fields (goal.at.returns-in_default-less c).In-Left-room_after_fields-2))
+    let e = ap length (ending-data s c.args.n vs (marked past.Then-n-value_count) _ refl) in
+    too_long_lem past.Start (omega (arith, size past.Start, after-fields past.In-Left-room_after_fields (after-head past.In-Left)))
 
 pub returns-in-Left-less : goal.returns-in-Left-less
 returns-in-Left-less c =
+    let past = goal.at.returns-in-Left-less c in
     let s = c.args.src.now in
     let vs = values_of c.args.p in
     let w = written (content_of s (value_of c.value_at.result)) in
     let k : ℕ = 2 + length c.args.name.now + length (after_name (field_texts s c.args.n vs)) + 3 in
     let l = left_is c.in-Left-room_after_fields.after_fields 3 c.in-Left-less.after_marker (rw c.in-Left-less.is at c.less-then-n-value_count.ensures) in
-    let e = ap length (ending-data s c.args.n vs (marked (goal.at.returns-in-Left-less c).Then-n-value_count) w (ap (λ (v : Value). written (content_of s v)) c.value_at.ensures)) in
-    let m : length (line_as s c.args.name.now c.args.n vs) ≡ k + c.item_len.result = omega (arith, size (goal.at.returns-in-Left-less c).Start, c.item_len.ensures) in
-    fits_after k c.args.room c.item_len.result c.in-Left-less.after_marker (omega (arith, after-fields (goal.at.returns-in-Left-less c).In-Left-room_after_fields-2)) ∙ rw m
+    let e = ap length (ending-data s c.args.n vs (marked past.Then-n-value_count) w (ap (λ (v : Value). written (content_of s v)) c.value_at.ensures)) in
+    let m : length (line_as s c.args.name.now c.args.n vs) ≡ k + c.item_len.result = omega (arith, size past.Start, c.item_len.ensures) in
+    fits_after k c.args.room c.item_len.result c.in-Left-less.after_marker (omega (arith, after-fields past.In-Left-room_after_fields (after-head past.In-Left))) ∙ rw m
 
 pub returns-else-n-value_count : goal.returns-else-n-value_count
 returns-else-n-value_count c =
+    let past = goal.at.returns-else-n-value_count c in
     let s = c.args.src.now in
     let vs = values_of c.args.p in
     let k : ℕ = 2 + length c.args.name.now + length (after_name (field_texts s c.args.n vs)) in
-    let m = size (goal.at.returns-else-n-value_count c).Start ∙ ap (λ (j : ℕ). k + j) (ap length (ending-crlf s c.args.n vs (rw c.value_count.ensures at c.if-n-value_count.false))) in
-    fits_after k c.args.room 2 c.in-Left-room_after_fields.after_fields (after-fields (goal.at.returns-else-n-value_count c).In-Left-room_after_fields-2) ∙ rw m
+    let m = size past.Start ∙ ap (λ (j : ℕ). k + j) (ap length (ending-crlf s c.args.n vs (rw c.value_count.ensures at c.if-n-value_count.false))) in
+    fits_after k c.args.room 2 c.in-Left-room_after_fields.after_fields (after-fields past.In-Left-room_after_fields (after-head past.In-Left)) ∙ rw m

@@ -11,6 +11,7 @@ use Rattle.writer.proofs.LineLaws.{ending-data, ending-crlf}
 use Rattle.writer.proofs.line.put_ending.Goals as goal
 use Rattle.writer.proofs.line.put_ending.Goals.{After-item_len-len}
 
+-- `line::put_ending` meets its contract: the marker and the data, put one after the other, are the end of a marked line. Assumes nothing.
 -- there are data after the fields: the end of the line, and that their length is one of two bytes
 marked : (c : After-item_len-len) → c.args.n < length (values_of c.args.p)
 marked c = rw c.value_count.ensures at c.if-n-value_count.true
@@ -41,15 +42,16 @@ overflow_add-result-then-n-value_count c = omega (arith, room (goal.at.overflow_
 
 pub returns-then-n-value_count : goal.returns-then-n-value_count
 returns-then-n-value_count c =
+    let past = goal.at.returns-then-n-value_count c in
     let b = c.args.buf.now in
     let at = c.args.at in
     let s = c.args.src.now in
     let w = written (content_of s (value_of c.value_at-data.result)) in
     let n : ℕ = length w in
     let l : c.item_len-len.result ≡ n = c.item_len-len.ensures in
-    let high : n / 256 % 256 ≡ n / 256 = omega (arith, small (goal.at.returns-then-n-value_count c).After-item_len-len) in
+    let high : n / 256 % 256 ≡ n / 256 = omega (arith, small past.After-item_len-len) in
     let two = rw (c.put.ensures.1, l, high) at c.put_item.ensures in
-    rw (the_end (goal.at.returns-then-n-value_count c).After-item_len-len, l) (omega arith, two ∙ after_append b at (1 ∷ n / 256 ∷ n % 256 ∷ []) w (omega (arith, room (goal.at.returns-then-n-value_count c).After-item_len-len)))
+    rw (the_end past.After-item_len-len, l) (omega arith, two ∙ after_append b at (1 ∷ n / 256 ∷ n % 256 ∷ []) w (omega (arith, room past.After-item_len-len)))
 
 pub returns-else-n-value_count : goal.returns-else-n-value_count
 returns-else-n-value_count c =

@@ -1,17 +1,15 @@
 use borrow.Author.Tests.{eq-eqb, ne_eqb}
 use mathlib.Core.List.{[], ◌∷◌}
-use mathlib.Core.Logic.{⊎_elim}
 use mathlib.Core.Path.{◌≡◌, refl, sym, ap, ◌∙◌}
-use Prim.Native.Nat.{ℕ, ◌+◌, ◌-◌, ◌≤◌}
+use Prim.Native.Nat.{ℕ, ◌+◌, ◌≤◌}
 use native.Mathlib.Omega.{arith}
 use lib.ListN.{length}
-use Rattle.text.specs.Put.{after}
-use Rattle.writer.specs.Line.{content_of, written, after_name}
+use Rattle.writer.specs.Line.{content_of, written}
 use Rattle.at.specs.Parts.{value_of, values_of}
 use Rattle.writer.specs.Steps.{field_texts}
 use Rattle.writer.proofs.FieldsLaws.{from, from_first, separator, fields-next, fields-length, fields-end, after_nothing, after_turn}
 use Rattle.writer.proofs.line.put_fields.Goals as goal
-use Rattle.writer.proofs.line.put_fields.Goals.{After-value_at-item, Joined-i-eq0}
+use Rattle.writer.proofs.line.put_fields.Goals.{After-value_at-item, Joined-i-eq0, then-i-eq0, else-i-eq0}
 
 pub loop-i-init : goal.loop-i-init
 loop-i-init c = let e = from_first (field_texts c.args.src.now c.args.n (values_of c.args.p)) in (omega arith, refl, rw e, rw e)
@@ -20,7 +18,10 @@ loop-i-init c = let e = from_first (field_texts c.args.src.now c.args.n (values_
 separates : (c : Joined-i-eq0) → c.if-i-eq0.separator ≡ separator c.loop-i.i ∷ []
 separates c =
     let i : ℕ = c.loop-i.i in
-    ⊎_elim (λ w. rw (eq-eqb i 0 w.0.taken) w.1) (λ w. rw (ne_eqb i 0 w.0.left) w.1) c.if-i-eq0.branch
+    elim c.if-i-eq0.branch [
+      | then-i-eq0 w ↦ rw (eq-eqb i 0 w.if-i-eq0.true) w.separator-is
+      | else-i-eq0 w ↦ rw (ne_eqb i 0 w.if-i-eq0.false) w.separator-is
+    ]
 
 pub slice_bounds-put-end : goal.slice_bounds-put-end
 slice_bounds-put-end c = rw (separates (goal.at.slice_bounds-put-end c).Joined-i-eq0)
@@ -52,6 +53,7 @@ loop-i-smaller c = omega arith
 
 pub loop-i-preserved : goal.loop-i-preserved
 loop-i-preserved c =
+    let past = goal.at.loop-i-preserved c in
     let loop = c.loop-i in
     let s = c.args.src.now in
     let n = c.args.n in
@@ -59,10 +61,10 @@ loop-i-preserved c =
     let v = value_of c.value_at-item.result in
     let e = fields-next vs n c.requires.0 loop.i c.loop-i-test.true v c.value_at-item.ensures s in
     let l = fields-length vs n c.requires.0 loop.i c.loop-i-test.true v c.value_at-item.ensures s in
-    let two = rw (c.put.ensures.1, separates (goal.at.loop-i-preserved c).Joined-i-eq0) at c.put_item.ensures in
-    let turn = after_turn loop.buf loop.k (separator loop.i) (written (content_of s v)) (from (field_texts s n vs) (loop.i + 1)) (room (goal.at.loop-i-preserved c).After-value_at-item) in (
+    let two = rw (c.put.ensures.1, separates past.Joined-i-eq0) at c.put_item.ensures in
+    let turn = after_turn loop.buf loop.k (separator loop.i) (written (content_of s v)) (from (field_texts s n vs) (loop.i + 1)) (room past.After-value_at-item) in (
       omega arith,
-      c.put_item.auto.0 ∙ c.put.auto.0 ∙ loop.invariant.1,
+      c.put_item.auto.buf ∙ c.put.auto.buf ∙ loop.invariant.1,
       omega (arith, c.item_len.ensures, loop.invariant.2),
       rw (two, c.item_len.ensures) (turn ∙ rw (sym e) loop.invariant.3),
     )

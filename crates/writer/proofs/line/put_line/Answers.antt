@@ -4,6 +4,7 @@ use Rattle.at.specs.Parts.{values_of}
 use Rattle.writer.proofs.LineLaws.{line_length, line_put}
 use Rattle.writer.proofs.line.put_line.Goals as goal
 
+-- `line::put_line` meets its contract: head, fields and end, each after the one before it. Assumes nothing.
 pub overflow_add-name : goal.overflow_add-name
 overflow_add-name c =
     let l = line_length c.args.src.now c.args.n (values_of c.args.p) c.args.name.now in
@@ -12,12 +13,12 @@ overflow_add-name c =
 pub put_fields-at-requires : goal.put_fields-at-requires
 put_fields-at-requires c =
     let l = line_length c.args.src.now c.args.n (values_of c.args.p) c.args.name.now in
-    (c.requires.0, omega (arith, c.put-2.auto.0, c.put.auto.0, c.requires.1))
+    (c.requires.0, omega (arith, c.requires.1))
 
 pub put_ending-requires : goal.put_ending-requires
 put_ending-requires c =
     let l = line_length c.args.src.now c.args.n (values_of c.args.p) c.args.name.now in
-    (omega (arith, c.put_fields-at.auto.0, c.put-2.auto.0, c.put.auto.0, c.put_fields-at.ensures.0, c.requires.1), c.requires.2)
+    (omega (arith, c.put_fields-at.ensures.0, c.requires.1), c.requires.2)
 
 pub returns : goal.returns
 returns c =

@@ -1,11 +1,10 @@
 use borrow.Author.Rules.{rules}
 use mathlib.Core.List.{List, []}
 use mathlib.Core.Path.{◌≡◌, sym, ◌∙◌, ap}
-use Prim.Native.Nat.{ℕ, ◌+◌, ◌-◌, ◌≤◌}
+use Prim.Native.Nat.{ℕ, ◌+◌, ◌-◌}
 use native.Mathlib.Omega.{arith}
 use lib.ListN.{length}
 use Rattle.at.specs.Parts.{value_of, values_of}
-use Rattle.writer.specs.Line.{after_name}
 use Rattle.writer.specs.Steps.{field_texts, room_after}
 use Rattle.writer.proofs.FieldsLaws.{from, from_first, from_next, texts_count, fields-length, fields-end}
 use Rattle.writer.proofs.RoomLaws.{room_whole, room_after_lem, room-over}

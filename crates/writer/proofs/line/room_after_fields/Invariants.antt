@@ -1,13 +1,10 @@
-use mathlib.Core.List.{List, []}
-use mathlib.Core.Path.{◌≡◌, sym, ◌∙◌, ap}
-use Prim.Native.Nat.{ℕ, ◌+◌, ◌-◌, ◌≤◌}
-use native.Mathlib.Omega.{arith}
+use mathlib.Core.Path.{◌≡◌}
+use Prim.Native.Nat.{◌-◌, ◌≤◌}
 use lib.ListN.{length}
-use Rattle.at.specs.Parts.{value_of, values_of}
+use Rattle.at.specs.Parts.{values_of}
 use Rattle.writer.specs.Line.{after_name}
 use Rattle.writer.specs.Steps.{field_texts, room_after}
-use Rattle.writer.proofs.FieldsLaws.{from, from_first, from_next, texts_count, fields-length, fields-end}
-use Rattle.writer.proofs.RoomLaws.{room_whole, room_after_lem, room-over}
+use Rattle.writer.proofs.FieldsLaws.{from}
 use Rattle.writer.proofs.line.room_after_fields.Given as goal
 
 -- `line::room_after_fields` meets its contract. The invariant: what is left of the room after the fields is what is left of `left` after those

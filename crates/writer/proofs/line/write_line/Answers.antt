@@ -1,4 +1,4 @@
-use borrow.Author.Tests.{not-true, not-false, leb-true}
+use borrow.Author.Tests.{leb-true}
 use mathlib.Core.Bool.{true}
 use mathlib.Core.Path.{◌≡◌, refl, sym, ap, ◌∙◌}
 use lib.Dec.{leb}
@@ -30,15 +30,17 @@ returns-then-not-fits c =
 
 pub put_line-requires : goal.put_line-requires
 put_line-requires c =
+    let past = goal.at.put_line-requires c in
     let s = c.args.src.now in
     let vs = values_of c.args.p in
     let l = line_as s c.args.name.now c.args.n vs in
-    (c.requires, leb-true (length l) (length c.args.buf.now) (has_room (goal.at.put_line-requires c).Else-not-fits), data_small s c.args.n vs (can-be-written (goal.at.put_line-requires c).Else-not-writable))
+    (c.requires, leb-true (length l) (length c.args.buf.now) (has_room past.Else-not-fits), data_small s c.args.n vs (can-be-written past.Else-not-writable))
 
 pub returns : goal.returns
 returns c =
+    let past = goal.at.returns c in
     let b = c.args.buf.now in
     let l = line_as c.args.src.now c.args.name.now c.args.n (values_of c.args.p) in
-    let front = after_front b l (leb-true (length l) (length b) (has_room (goal.at.returns c).Else-not-fits)) in
-    rw (can-be-written (goal.at.returns c).Else-not-writable, has_room (goal.at.returns c).Else-not-fits)
+    let front = after_front b l (leb-true (length l) (length b) (has_room past.Else-not-fits)) in
+    rw (can-be-written past.Else-not-writable, has_room past.Else-not-fits)
     (record { answers = ap good c.put_line.ensures.0; leaves = c.put_line.ensures.1 ∙ front })

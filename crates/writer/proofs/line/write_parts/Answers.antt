@@ -1,5 +1,5 @@
 use Prim.Native.Nat.{◌≤◌, ◌<◌}
-use mathlib.Core.Path.{refl, sym, ap, ◌∙◌}
+use mathlib.Core.Path.{refl, ap, ◌∙◌}
 use native.Mathlib.Omega.{arith}
 use lib.ListN.{length, length-map}
 use Rattle.at.specs.Event.{name_of, kinds_of}
@@ -23,4 +23,4 @@ returns c = λ rows t.
     let name = c.name_at.ensures ∙ row.2 in
     let count = ap length (c.kinds_at.ensures ∙ row.3) ∙ length-map (kinds_of row.0) _ in
     let cut = write-cut (length start.buf.now) start.src.now (name_of row.0) (length (kinds_of row.0)) c.field_count-n.result (values_of start.p) (rw count at c.field_count-n.ensures) in
-    rw (row.1, sym (row_write (length start.buf.now) start.src.now row.0 (values_of start.p)), ← cut, ← name) c.write_line.ensures
+    rw (row.1, ← row_write (length start.buf.now) start.src.now row.0 (values_of start.p), ← cut, ← name) c.write_line.ensures
