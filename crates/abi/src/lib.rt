@@ -1,5 +1,7 @@
 // Calls for programs in C and Rust. Those of this file give each answer as one number; `read` hands out what was read and `write` takes what is to be
 // written, in rows of numbers. bindings/ says what a caller owes.
+#![tactic(auto)]
+
 mod given;
 mod packet;
 pub mod read;

@@ -1,0 +1,12 @@
+use Prim.Native.Nat.{◌/◌, ◌%◌}
+use mathlib.Core.Path.{sym, ◌∙◌}
+use mathlib.Core.List.{[], ◌∷◌}
+use Rattle.abi.proofs.RowLaws.{handed_long, handed-short}
+use Rattle.abi.proofs.read.hand_refusal.Goals as goal
+
+-- `read::hand_refusal` meets its contract. Assumes nothing.
+pub returns-then-row-ge17 : goal.returns-then-row-ge17
+returns-then-row-ge17 c = c.refuse.ensures.1 ∙ sym (handed_long c.args.row.now (c.args.why % 256 ∷ c.args.why / 256 % 256 ∷ c.args.why / 65536 ∷ []) c.if-row-ge17.true)
+
+pub returns-else-row-ge17 : goal.returns-else-row-ge17
+returns-else-row-ge17 c = sym (handed-short c.args.row.now (c.args.why % 256 ∷ c.args.why / 256 % 256 ∷ c.args.why / 65536 ∷ []) c.if-row-ge17.false)
