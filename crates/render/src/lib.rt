@@ -1,5 +1,7 @@
 // Answers as lines of text: the names of the Rust, then the fields in its order, split by single spaces. Each function prints at a place of a
 // lent buffer, as many bytes as fit, and answers the place just past them.
+#![tactic(auto)]
+
 pub mod capture;
 mod event;
 pub mod explained;
