@@ -1,4 +1,6 @@
 // Judges the first 4,100 bytes of standard input as one EDM frame, and prints what it is as one line.
+#![tactic(auto)]
+
 ghost use Rattle.std.specs.Prelude.{◌≤◌, ◌≡◌, length, take};
 ghost use Rattle.judge.specs.Judgement.{judgement};
 
