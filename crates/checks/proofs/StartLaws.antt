@@ -9,7 +9,7 @@ use lib.Seq.{drop-drop, drop-nil}
 use borrow.Author.Tests.{lt-ltb, le-ltb}
 use Rattle.text.specs.Bytes.{bytes, part}
 use Rattle.text.specs.Find.{first_of, first_from}
-use Rattle.text.specs.Field.{Field, field, next_field}
+use Rattle.text.specs.Field.{field, next_field}
 use Rattle.text.specs.FieldSteps.{left}
 use Rattle.text.specs.declared.find.Found.TheVariants.{At, Nothing}
 use Rattle.text.specs.declared.field.Fields.{Fields}

@@ -1,5 +1,5 @@
 -- How an accepted input is cut: each field has a slot, and what no slot takes is passed over.
-use Rattle.std.specs.Prelude.{ℕ, zero, suc, ◌+◌, ◌-◌, List, [], ◌∷◌, ◌++◌, Bool, cond, length, take}
+use Rattle.std.specs.Prelude.{ℕ, zero, suc, ◌-◌, List, [], ◌∷◌, ◌++◌, Bool, cond, length, take}
 use Prim.Native.Char.{code}
 use Rattle.text.specs.Find.{first_of}
 use Rattle.checks.specs.declared.part.PartName.{PartName}

@@ -14,8 +14,8 @@ use Rattle.text.specs.Bytes.{part}
 use Rattle.edm.specs.Packet.{identifiers, carried}
 use Rattle.edm.specs.Payload.{word, read_payload}
 use Rattle.edm.specs.Frame.{payload, read_frame}
-use Rattle.scan.specs.Cut.{passes, run, kept, skipped, cut, rows}
-use Rattle.scan.specs.Scan.{ranges, listed, after}
+use Rattle.scan.specs.Cut.{passes, run, cut, rows}
+use Rattle.scan.specs.Scan.{after}
 use Rattle.scan.specs.Listed.{listed_at}
 use Rattle.scan.specs.declared.ScanAnswer.TheVariants as answer
 use Rattle.scan.specs.declared.listed.Listed.{Listed}

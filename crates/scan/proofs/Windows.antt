@@ -9,7 +9,7 @@ use lib.ListN.{length, take, drop, length-drop, get_or-append}
 use lib.Seq.{take-append-le, drop-append-le, drop-drop}
 use Rattle.text.specs.Bytes.{part}
 use Rattle.edm.specs.Frame.{length_field}
-use Rattle.scan.specs.Cut.{passes, run, Piece, kept, skipped, ◌before◌, cut}
+use Rattle.scan.specs.Cut.{passes, run, Piece, kept, ◌before◌, cut}
 use Rattle.scan.specs.Step.{skipped_length}
 use Rattle.scan.specs.Window.{decided_places, skipping, Reported, closed}
 use Rattle.scan.proofs.RunLaws.{by_cases, stands, run_length}

@@ -1,8 +1,6 @@
-use Prim.Native.Nat.{suc, ◌+◌, ◌-◌, ◌≤◌}
+use Prim.Native.Nat.{suc, ◌+◌, ◌-◌}
 use mathlib.Core.Path.{◌≡◌, refl, sym, ◌∙◌}
 use native.Mathlib.Omega.{arith}
-use Rattle.text.specs.FieldSteps.{left}
-use Rattle.checks.specs.Steps.{start_no}
 use Rattle.checks.proofs.StartLaws.{none_starts, passed-field, this_field}
 use Rattle.checks.proofs.field.nth_start.Goals as goal
 

@@ -1,9 +1,7 @@
-use Prim.Native.Nat.{suc, ◌+◌, ◌-◌, ◌≤◌}
-use mathlib.Core.Path.{◌≡◌, refl, sym, ◌∙◌}
-use native.Mathlib.Omega.{arith}
+use Prim.Native.Nat.{◌-◌, ◌≤◌}
+use mathlib.Core.Path.{◌≡◌}
 use Rattle.text.specs.FieldSteps.{left}
 use Rattle.checks.specs.Steps.{start_no}
-use Rattle.checks.proofs.StartLaws.{none_starts, passed-field, this_field}
 use Rattle.checks.proofs.field.nth_start.Given as goal
 
 -- `field::nth_start` meets its contract.

@@ -1,8 +1,6 @@
 use native.Mathlib.Omega.{arith}
-use mathlib.Core.Path.{◌≡◌, ap, ◌∙◌}
-use Prim.Native.Nat.{◌+◌, ◌-◌, ◌≤◌}
-use lib.ListN.{length, drop, length-drop}
-use Rattle.scan.specs.Cut.{cut}
+use mathlib.Core.Path.{ap, ◌∙◌}
+use lib.ListN.{length, length-drop}
 use Rattle.scan.proofs.CutLaws.{rest, Next, next, cut-end}
 use Rattle.scan.proofs.fill.count.Goals as goal
 use Rattle.scan.proofs.fill.count.Goals.{After-first-r}

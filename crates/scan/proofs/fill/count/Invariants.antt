@@ -1,9 +1,7 @@
-use native.Mathlib.Omega.{arith}
-use mathlib.Core.Path.{◌≡◌, ap, ◌∙◌}
+use mathlib.Core.Path.{◌≡◌}
 use Prim.Native.Nat.{◌+◌, ◌-◌, ◌≤◌}
-use lib.ListN.{length, drop, length-drop}
+use lib.ListN.{length, drop}
 use Rattle.scan.specs.Cut.{cut}
-use Rattle.scan.proofs.CutLaws.{rest, Next, next, cut-end}
 use Rattle.scan.proofs.fill.count.Given as goal
 
 -- `fill::count` meets its contract: n ranges are counted, and those of the rest are to come. Assumes nothing.

@@ -1,9 +1,8 @@
 use native.Mathlib.Omega.{arith}
 use mathlib.Core.Path.{ap, ◌∙◌}
-use Prim.Native.Nat.{◌-◌}
 use lib.ListN.{length, length-drop}
 use Rattle.scan.proofs.CutLaws.{rest, Next, next}
-use Rattle.scan.proofs.FillLaws.{row_first, Filling, filling_start, filling_more, filling_end}
+use Rattle.scan.proofs.FillLaws.{row_first, filling_start, filling_more, filling_end}
 use Rattle.scan.proofs.fill.fill.Goals as goal
 use Rattle.scan.proofs.fill.fill.Goals.{After-first-r}
 

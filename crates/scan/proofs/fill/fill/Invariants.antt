@@ -1,9 +1,6 @@
-use native.Mathlib.Omega.{arith}
-use mathlib.Core.Path.{ap, ◌∙◌}
 use Prim.Native.Nat.{◌-◌}
-use lib.ListN.{length, length-drop}
-use Rattle.scan.proofs.CutLaws.{rest, Next, next}
-use Rattle.scan.proofs.FillLaws.{row_first, Filling, filling_start, filling_more, filling_end}
+use lib.ListN.{length}
+use Rattle.scan.proofs.FillLaws.{Filling}
 use Rattle.scan.proofs.fill.fill.Given as goal
 
 -- `fill::fill` meets its contract: the loop's invariant is `Filling`. Assumes nothing.

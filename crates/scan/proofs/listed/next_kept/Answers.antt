@@ -1,7 +1,5 @@
-use Prim.Native.Nat.{◌-◌}
-use mathlib.Core.Path.{◌≡◌, refl, sym, ap, ◌∙◌}
+use mathlib.Core.Path.{refl, sym, ap, ◌∙◌}
 use native.Mathlib.Omega.{arith}
-use Rattle.scan.specs.Listed.{next_kept}
 use Rattle.scan.proofs.ListedLaws.{kept_past, kept_here, kept-later}
 use Rattle.scan.proofs.listed.next_kept.Goals as goal
 

@@ -1,8 +1,6 @@
 use Prim.Native.Nat.{◌-◌}
-use mathlib.Core.Path.{◌≡◌, refl, sym, ap, ◌∙◌}
-use native.Mathlib.Omega.{arith}
+use mathlib.Core.Path.{◌≡◌}
 use Rattle.scan.specs.Listed.{next_kept}
-use Rattle.scan.proofs.ListedLaws.{kept_past, kept_here, kept-later}
 use Rattle.scan.proofs.listed.next_kept.Given as goal
 
 abbrev pub invariant-loop-at : goal.invariant-loop-at

@@ -1,9 +1,7 @@
-use Rattle.scan.specs.Step.{kept_length, skipped_length}
-use mathlib.Core.Path.{ap, ◌∙◌, ◌≡◌}
+use Rattle.scan.specs.Step.{kept_length}
+use mathlib.Core.Path.{ap, ◌∙◌}
 use Rattle.scan.proofs.CutLaws.{rest, skips-stop, skips-end, skips-next}
 use native.Mathlib.Omega.{arith}
-use Prim.Native.Nat.{◌+◌, ◌-◌, ◌≤◌}
-use lib.ListN.{length, drop}
 use Rattle.scan.proofs.run.skipped_length.Goals as goal
 
 pub loop-i-init : goal.loop-i-init

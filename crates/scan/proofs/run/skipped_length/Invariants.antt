@@ -1,7 +1,5 @@
-use Rattle.scan.specs.Step.{kept_length, skipped_length}
-use mathlib.Core.Path.{ap, ◌∙◌, ◌≡◌}
-use Rattle.scan.proofs.CutLaws.{rest, skips-stop, skips-end, skips-next}
-use native.Mathlib.Omega.{arith}
+use Rattle.scan.specs.Step.{skipped_length}
+use mathlib.Core.Path.{◌≡◌}
 use Prim.Native.Nat.{◌+◌, ◌-◌, ◌≤◌}
 use lib.ListN.{length, drop}
 use Rattle.scan.proofs.run.skipped_length.Given as goal
