@@ -6,7 +6,6 @@ use mathlib.Core.Bool.{cond}
 use lib.Dec.{eqb, ltb}
 use Rattle.text.proofs.OneOutcome.{distinguished}
 use Rattle.at.specs.Refusal.{Refusal, no, missing, invalid, number_of}
-use Rattle.at.specs.declared.AtPacketError.{AtPacketError}
 use Rattle.at.specs.declared.AtPacketError.TheVariants as at
 use Rattle.at.proofs.Refusals as events
 use Rattle.edm.specs.Refusal.{refusal_of}
