@@ -1,18 +1,17 @@
-use Prim.Native.Nat.{ℕ, suc, ◌+◌, ◌*◌, ◌-◌, ◌≤◌, ◌<◌}
+use Prim.Native.Nat.{ℕ, suc, ◌+◌, ◌*◌, ◌≤◌, ◌<◌}
 use mathlib.Core.List.{List}
 use mathlib.Core.Path.{◌≡◌, refl, sym, ap, ◌∙◌}
 use native.Mathlib.Omega.{arith}
 use native.Mathlib.Numerals.{add-one}
-use lib.ListN.{length, get_or, take, drop, length-set}
+use lib.ListN.{length, get_or, take, length-set}
 use lib.Seq.{get_or-take, length-take-le}
 use Rattle.text.specs.Bytes.{part}
 use Rattle.text.specs.Field.{next_field}
-use Rattle.text.specs.FieldSteps.{left}
 use Rattle.text.specs.declared.field.Next.TheVariants as next
 use Rattle.at.specs.Refusal.{no, missing, invalid, refused}
-use Rattle.at.specs.Event.{read_field, take_kinds}
-use Rattle.at.specs.Steps.{kind_of, kinds_in, one_of, values_of, fields_in, without_rest}
-use Rattle.at.proofs.TakeLaws.{ahead, ahead_refused, take-missing, take-refused, one_more, all_taken, field_stored, seven-fields}
+use Rattle.at.specs.Event.{read_field}
+use Rattle.at.specs.Steps.{kind_of, one_of, values_of, without_rest}
+use Rattle.at.proofs.TakeLaws.{ahead_refused, take-missing, take-refused, one_more, all_taken, field_stored, seven-fields}
 use borrow.Author.Rules.{rules}
 use Rattle.at.proofs.field.take_fields.Goals as goal
 use Rattle.at.proofs.field.take_fields.Goals.{After-field_of, In-Field, In-loop-i}

@@ -1,18 +1,10 @@
-use Prim.Native.Nat.{ℕ, suc, ◌+◌, ◌*◌, ◌-◌, ◌≤◌, ◌<◌}
-use mathlib.Core.List.{List}
-use mathlib.Core.Path.{◌≡◌, refl, sym, ap, ◌∙◌}
-use native.Mathlib.Omega.{arith}
-use native.Mathlib.Numerals.{add-one}
-use lib.ListN.{length, get_or, take, drop, length-set}
-use lib.Seq.{get_or-take, length-take-le}
-use Rattle.text.specs.Bytes.{part}
-use Rattle.text.specs.Field.{next_field}
+use Prim.Native.Nat.{suc, ◌-◌, ◌≤◌}
+use mathlib.Core.Path.{◌≡◌}
+use lib.ListN.{length, take, drop}
 use Rattle.text.specs.FieldSteps.{left}
-use Rattle.text.specs.declared.field.Next.TheVariants as next
-use Rattle.at.specs.Refusal.{no, missing, invalid, refused}
-use Rattle.at.specs.Event.{read_field, take_kinds}
-use Rattle.at.specs.Steps.{kind_of, kinds_in, one_of, values_of, fields_in, without_rest}
-use Rattle.at.proofs.TakeLaws.{ahead, ahead_refused, take-missing, take-refused, one_more, all_taken, field_stored, seven-fields}
+use Rattle.at.specs.Event.{take_kinds}
+use Rattle.at.specs.Steps.{kinds_in, values_of, fields_in}
+use Rattle.at.proofs.TakeLaws.{ahead}
 use Rattle.at.proofs.field.take_fields.Given as goal
 
 -- `field::take_fields` meets its contract: what is taken from the whole row is the values in the numbers, and what the rest of the row gives.

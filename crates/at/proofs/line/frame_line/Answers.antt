@@ -3,7 +3,6 @@ use mathlib.Core.Bool.{true, false}
 use Prim.Native.Nat.{◌-◌}
 use native.Mathlib.Omega.{arith}
 use lib.ListN.{length, length-drop}
-use borrow.Author.Tests.{not-true, not-false}
 use Rattle.text.specs.Utf8.{utf8, inside_character}
 use Rattle.text.proofs.BytesLaws.{part-rest}
 use Rattle.at.proofs.LineLaws.{within-rest, framed_foreign, framed-short, framed-inside, framed_open, framed-whole}

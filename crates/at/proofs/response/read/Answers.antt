@@ -2,7 +2,6 @@ use mathlib.Core.Path.{◌≡◌, sym, ap, ◌∙◌}
 use mathlib.Core.Bool.{true}
 use native.Mathlib.Omega.{arith}
 use lib.ListN.{drop}
-use borrow.Author.Tests.{not-true, not-false}
 use Rattle.text.specs.Bytes.{part}
 use Rattle.text.specs.Utf8.{utf8}
 use Rattle.text.proofs.BytesLaws.{part-rest}

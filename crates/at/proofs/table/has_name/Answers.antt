@@ -1,8 +1,6 @@
-use Prim.Native.Nat.{suc, ◌-◌, ◌≤◌}
+use Prim.Native.Nat.{suc, ◌-◌}
 use mathlib.Core.Path.{◌≡◌, sym, ◌∙◌}
 use native.Mathlib.Omega.{arith}
-use lib.ListN.{length, drop}
-use Rattle.text.specs.Bytes.{part}
 use Rattle.text.proofs.BytesLaws.{same_length}
 use Rattle.at.proofs.BinaryLaws.{part_length}
 use Rattle.at.proofs.NameLaws.{alike_end, other, alike_more, alike}

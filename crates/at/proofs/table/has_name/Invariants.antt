@@ -1,11 +1,7 @@
-use Prim.Native.Nat.{suc, ◌-◌, ◌≤◌}
-use mathlib.Core.Path.{◌≡◌, sym, ◌∙◌}
-use native.Mathlib.Omega.{arith}
+use Prim.Native.Nat.{◌≤◌}
+use mathlib.Core.Path.{◌≡◌}
 use lib.ListN.{length, drop}
 use Rattle.text.specs.Bytes.{part}
-use Rattle.text.proofs.BytesLaws.{same_length}
-use Rattle.at.proofs.BinaryLaws.{part_length}
-use Rattle.at.proofs.NameLaws.{alike_end, other, alike_more, alike}
 use Rattle.at.proofs.table.has_name.Given as goal
 
 -- `table::has_name` meets its contract: the two names are the same from `i` on. Assumes nothing.
