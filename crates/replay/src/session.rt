@@ -5,9 +5,10 @@ ghost use Rattle.replay.specs.Reply.{without_cr, answer_line};
 ghost use Rattle.replay.specs.Buffers.{Buffers};
 
 use crate::answer::answer;
-use libc::STDOUT_FILENO;
 use lines::input::{line_end, move_to_front, read_after};
+use lines::output::say_failure;
 use render::word::word;
+use std::io::Read;
 use text::bytes::{part, same};
 
 // A line with more bytes is too long.
@@ -58,13 +59,13 @@ impl Session {
 }
 
 // Writes out what was answered. After a write that failed there is none.
-pub(crate) fn write_out(output: &[u8], s: Session) -> Session
+pub(crate) fn write_out(rt: &(impl Print + Eprint), output: &[u8], s: Session) -> Session
     ensures { result.place ≡ 0 }
 {
     let mut t = s;
     if s.is_writing {
-        if !io::write_all(STDOUT_FILENO, part(output, 0, s.place)) {
-            os::fail(b"replay: cannot write standard output");
+        if let Err(e) = rt.write_all(part(output, 0, s.place)) {
+            say_failure(rt, "replay: cannot write standard output", Some(e));
             t.is_writing = false;
         }
     }
@@ -73,11 +74,11 @@ pub(crate) fn write_out(output: &[u8], s: Session) -> Session
 }
 
 // Sees that the output has room for an answer.
-fn with_room(output: &[u8], s: Session) -> Session
+fn with_room(rt: &(impl Print + Eprint), output: &[u8], s: Session) -> Session
     ensures { result.place ≤ 49152 }
 {
     if NEARLY_FULL < s.place {
-        write_out(output, s)
+        write_out(rt, output, s)
     } else {
         s
     }
@@ -123,6 +124,7 @@ pub(crate) fn reply(
 
 // Answers each line that ends in `input`, of which the kept bytes hold no line end.
 pub(crate) fn lines(
+    rt: &(impl Print + Eprint),
     input: &[u8],
     output: &mut [u8],
     bytes: &mut [u8],
@@ -135,7 +137,7 @@ pub(crate) fn lines(
     let mut start = 0;
     let mut end = line_end(input, s.kept);
     while end < input.len() {
-        session = with_room(output, session);
+        session = with_room(rt, output, session);
         session.place = reply(
             output,
             session.place,
@@ -145,7 +147,7 @@ pub(crate) fn lines(
             bytes,
             target,
         );
-        session.number = std::num::wrapping_add_u64(session.number, 1);
+        session.number = session.number.wrapping_add(1);
         session.is_too_long = false;
         start = end + 1;
         end = line_end(input, start);
@@ -155,6 +157,8 @@ pub(crate) fn lines(
 
 // Reads once, answers the lines that are then whole, and writes the answers out.
 pub(crate) fn turn(
+    rt: &(impl Print + Eprint),
+    from: &mut impl Read,
     input: &mut [u8],
     output: &mut [u8],
     bytes: &mut [u8],
@@ -163,16 +167,16 @@ pub(crate) fn turn(
 ) -> Session
     requires { Buffers output.old bytes.old target.old }
 {
-    let got = read_after(input, s.kept);
-    if got.failed {
-        os::fail(b"replay: cannot read standard input");
+    let got = read_after(from, input, s.kept);
+    if got.failed.is_some() {
+        say_failure(rt, "replay: cannot read standard input", got.failed);
         return s.ended(true);
     }
     if got.count <= s.kept {
         return s.ended(false);
     }
-    let rest = lines(part(input, 0, got.count), output, bytes, target, s);
+    let rest = lines(rt, part(input, 0, got.count), output, bytes, target, s);
     let kept = move_to_front(input, rest.start, got.count);
     let session = rest.session;
-    write_out(output, session.unfinished(kept))
+    write_out(rt, output, session.unfinished(kept))
 }
