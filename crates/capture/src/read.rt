@@ -4,11 +4,11 @@ ghost use Rattle.text.specs.Put.{placed};
 ghost use Rattle.capture.specs.Record.{record_line};
 
 use crate::window::{Window, at_hand, refill};
-use libc::STDERR_FILENO;
-use lines::output::{Out, with_room, write_out};
+use lines::output::{Out, say_failure, with_room, write_out};
 use pcap::read::{read_header, read_record};
 use pcap::{ByteOrder, CaptureError, HeaderAnswer, RecordAnswer};
 use render::word::word;
+use std::io::Read;
 use text::bytes::part;
 
 // So many bytes decide any record (`enough_decides`): where there are fewer, it may be that more have to be read first.
@@ -40,19 +40,20 @@ fn line(output: &mut [u8], at: usize, seconds: u32, microseconds: u32, frame: &[
 }
 
 // A line for each record that is found, one after the other.
-fn lines(output: &mut [u8], src: &[u8], order: ByteOrder) -> Found
+fn lines(rt: &impl Print, output: &mut [u8], src: &[u8], order: ByteOrder) -> Found
     requires { 131072 ≤ length output.old }
     ensures { result.used ≤ length src.now }
 {
     let mut out = Out {
         count: 0,
         works: true,
+        failed: None,
     };
     let mut at = 0;
     loop {
         match read_record(order, src, at) {
             RecordAnswer::Found(r) => {
-                out = with_room(output, out);
+                out = with_room(rt, output, out);
                 out.count = line(
                     output,
                     out.count,
@@ -80,35 +81,44 @@ fn lines(output: &mut [u8], src: &[u8], order: ByteOrder) -> Found
     }
 }
 
-fn refuse(output: &mut [u8], e: CaptureError, place: usize) {
+// `err` prints to standard error.
+fn refuse(err: &impl Print, output: &mut [u8], e: CaptureError, place: usize) {
     let next = render::capture::refused_at(output, 0, e, place);
     let n = word(output, next, b"\n");
-    io::write_all(STDERR_FILENO, part(output, 0, n));
+    let _ = err.write_all(part(output, 0, n));
 }
 
 // Writes the lines of the records at hand, and reads more if it may be that a record is not whole yet.
-fn turn(input: &mut [u8], output: &mut [u8], order: ByteOrder, r: Reading) -> Reading
+fn turn(
+    rt: &(impl Print + Eprint),
+    err: &impl Print,
+    from: &mut impl Read,
+    input: &mut [u8],
+    output: &mut [u8],
+    order: ByteOrder,
+    r: Reading,
+) -> Reading
     requires { 131072 ≤ length output.old }
 {
     let src = at_hand(input, r.window);
     let left = src.len();
-    let found = lines(output, src, order);
-    let out = write_out(output, found.out);
-    let place = std::num::wrapping_add_usize(r.place, found.used);
+    let found = lines(rt, output, src, order);
+    let out = write_out(rt, output, found.out);
+    let place = r.place.wrapping_add(found.used);
     let window = r.window.after(found.used);
     if out.works {
         if window.is_open && left - found.used < ENOUGH {
             return Reading {
-                window: refill(input, window),
+                window: refill(rt, from, input, window),
                 place,
                 goes_on: true,
             };
         }
         if !found.is_end {
-            refuse(output, CaptureError::CaptureRecordInvalid, place);
+            refuse(err, output, CaptureError::CaptureRecordInvalid, place);
         }
     } else {
-        os::fail(b"capture: cannot write standard output");
+        say_failure(rt, "capture: cannot write standard output", out.failed);
     }
     Reading {
         window,
@@ -118,7 +128,15 @@ fn turn(input: &mut [u8], output: &mut [u8], order: ByteOrder, r: Reading) -> Re
 }
 
 // A proved loop has to end, and nothing says that the input does. So the loop counts its turns down, from a number that no run uses up.
-fn records(input: &mut [u8], output: &mut [u8], order: ByteOrder, window: Window)
+fn records(
+    rt: &(impl Print + Eprint),
+    err: &impl Print,
+    from: &mut impl Read,
+    input: &mut [u8],
+    output: &mut [u8],
+    order: ByteOrder,
+    window: Window,
+)
     requires { 131072 ≤ length output.old }
 {
     let mut r = Reading {
@@ -131,34 +149,48 @@ fn records(input: &mut [u8], output: &mut [u8], order: ByteOrder, window: Window
         if !r.goes_on {
             break;
         }
-        r = turn(input, output, order, r);
+        r = turn(rt, err, from, input, output, order, r);
         turns -= 1;
     }
 }
 
 // Reads until 24 bytes are at hand, or no more follow. Each turn reads a byte or more.
-fn header_at_hand(input: &mut [u8]) -> Window {
+fn header_at_hand(rt: &impl Eprint, from: &mut impl Read, input: &mut [u8]) -> Window {
     let mut w = Window::new();
     let mut turns: usize = 24;
     while 0 < turns {
         if !w.is_open || 24 <= w.end {
             break;
         }
-        w = refill(input, w);
+        w = refill(rt, from, input, w);
         turns -= 1;
     }
     w
 }
 
-pub(crate) fn read(input: &mut [u8], output: &mut [u8])
+pub(crate) fn read(
+    rt: &(impl Print + Eprint),
+    err: &impl Print,
+    from: &mut impl Read,
+    input: &mut [u8],
+    output: &mut [u8],
+)
     requires { 131072 ≤ length output.old }
 {
-    let w = header_at_hand(input);
+    let w = header_at_hand(rt, from, input);
     if w.has_failed {
         return;
     }
     match read_header(at_hand(input, w)) {
-        HeaderAnswer::Header { order, is_ours: _ } => records(input, output, order, w.after(24)),
-        HeaderAnswer::Refused(e) => refuse(output, e, 0),
+        HeaderAnswer::Header { order, is_ours: _ } => records(
+            rt,
+            err,
+            from,
+            input,
+            output,
+            order,
+            w.after(24),
+        ),
+        HeaderAnswer::Refused(e) => refuse(err, output, e, 0),
     }
 }

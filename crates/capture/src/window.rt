@@ -1,5 +1,7 @@
 // What of standard input is at hand.
 use lines::input::{move_to_front, read_after};
+use lines::output::say_failure;
+use std::io::Read;
 use text::bytes::part;
 
 // The bytes of a buffer from `start` up to `end` are at hand. It is open as long as more may follow them.
@@ -23,7 +25,7 @@ impl Window {
 
     // What follows a place in the bytes at hand.
     pub(crate) fn after(mut self, used: usize) -> Self {
-        self.start = std::num::wrapping_add_usize(self.start, used);
+        self.start = self.start.wrapping_add(used);
         self
     }
 }
@@ -33,11 +35,16 @@ pub(crate) fn at_hand(input: &[u8], w: Window) -> &[u8] {
 }
 
 // Reads once more, after what is at hand. Where the system fails to read, what is at hand is not used.
-pub(crate) fn refill(input: &mut [u8], w: Window) -> Window {
+pub(crate) fn refill(
+    rt: &impl Eprint,
+    from: &mut impl Read,
+    input: &mut [u8],
+    w: Window,
+) -> Window {
     let kept = move_to_front(input, w.start, w.end);
-    let got = read_after(input, kept);
-    if got.failed {
-        os::fail(b"capture: cannot read standard input");
+    let got = read_after(from, input, kept);
+    if got.failed.is_some() {
+        say_failure(rt, "capture: cannot read standard input", got.failed);
         return Window {
             start: 0,
             end: 0,

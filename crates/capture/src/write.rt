@@ -8,11 +8,11 @@ ghost use Rattle.capture.specs.Put.{Puts};
 
 use crate::line::{Fault, Said, record_in};
 use crate::window::{Window, at_hand, refill};
-use libc::STDERR_FILENO;
 use lines::input::line_end;
-use lines::output::{Out, with_room, write_out};
+use lines::output::{Out, say_failure, with_room, write_out};
 use pcap::WriteAnswer;
 use pcap::write::{write_header, write_record};
+use std::io::Read;
 use text::bytes::part;
 
 // A line with more bytes is too long.
@@ -48,33 +48,33 @@ impl Writing {
     }
 
     // Where nothing can be written, nothing more is read.
-    fn written(mut self, out: Out) -> Self {
+    fn written(mut self, rt: &impl Eprint, out: Out) -> Self {
         self.out = out;
         if !out.works {
-            os::fail(b"capture: cannot write standard output");
+            say_failure(rt, "capture: cannot write standard output", out.failed);
             self.goes_on = false;
         }
         self
     }
 }
 
-fn complain(number: u64, words: &[u8]) {
-    io::write_all(STDERR_FILENO, b"capture: line ");
-    io::print_decimal(STDERR_FILENO, number);
-    io::write_all(STDERR_FILENO, words);
+fn complain(rt: &impl Eprint, number: u64, words: &str) {
+    let _ = eprint!(rt; "capture: line {number}{words}");
 }
 
-fn complain_of(number: u64, fault: Fault) {
+fn complain_of(rt: &impl Eprint, number: u64, fault: Fault) {
     match fault {
         Fault::NoTime => complain(
+            rt,
             number,
-            b": no time; it is SECONDS.MICROSECONDS, seconds below 4294967296 and six digits of microseconds\n",
+            ": no time; it is SECONDS.MICROSECONDS, seconds below 4294967296 and six digits of microseconds\n",
         ),
         Fault::NoFrame => complain(
+            rt,
             number,
-            b": no frame; after the time and a space it is hex, two digits for each byte, or - for an empty one\n",
+            ": no frame; after the time and a space it is hex, two digits for each byte, or - for an empty one\n",
         ),
-        Fault::FrameTooLong => complain(number, b": a frame has at most 4099 bytes\n"),
+        Fault::FrameTooLong => complain(rt, number, ": a frame has at most 4099 bytes\n"),
     }
 }
 
@@ -94,7 +94,14 @@ fn put_record(output: &mut [u8], at: usize, seconds: u32, microseconds: u32, fra
 }
 
 // Puts the record of a line, or says what is wrong with the line.
-fn put_line(output: &mut [u8], frame: &mut [u8], line: &[u8], number: u64, o: Out) -> Out
+fn put_line(
+    rt: &(impl Print + Eprint),
+    output: &mut [u8],
+    frame: &mut [u8],
+    line: &[u8],
+    number: u64,
+    o: Out,
+) -> Out
     requires { (length frame.old ≡ 4099) × (131072 ≤ length output.old) }
     ensures { Puts output.old o (said_in line.now) result output.new }
 {
@@ -105,7 +112,7 @@ fn put_line(output: &mut [u8], frame: &mut [u8], line: &[u8], number: u64, o: Ou
             microseconds,
             len,
         } => {
-            let mut out = with_room(output, o);
+            let mut out = with_room(rt, output, o);
             out.count = put_record(
                 output,
                 out.count,
@@ -116,36 +123,48 @@ fn put_line(output: &mut [u8], frame: &mut [u8], line: &[u8], number: u64, o: Ou
             out
         }
         Said::Wrong(fault) => {
-            complain_of(number, fault);
+            complain_of(rt, number, fault);
             o
         }
     }
 }
 
 // Puts the record of the next line, unless the line is too long.
-fn put_next(output: &mut [u8], frame: &mut [u8], line: &[u8], w: Writing) -> Writing
+fn put_next(
+    rt: &(impl Print + Eprint),
+    output: &mut [u8],
+    frame: &mut [u8],
+    line: &[u8],
+    w: Writing,
+) -> Writing
     requires { (length frame.old ≡ 4099) × (131072 ≤ length output.old) }
 {
     let mut r = w.measured(line.len());
-    r.number = std::num::wrapping_add_u64(w.number, 1);
+    r.number = w.number.wrapping_add(1);
     if r.is_too_long {
-        complain(w.number, b": more than 65536 bytes\n");
+        complain(rt, w.number, ": more than 65536 bytes\n");
         r.is_too_long = false;
         return r;
     }
-    r.out = put_line(output, frame, line, w.number, w.out);
+    r.out = put_line(rt, output, frame, line, w.number, w.out);
     r
 }
 
 // Puts the records of the lines that end in `src`, which may lack the end of its last line.
-fn put_lines(output: &mut [u8], frame: &mut [u8], src: &[u8], w: Writing) -> Writing
+fn put_lines(
+    rt: &(impl Print + Eprint),
+    output: &mut [u8],
+    frame: &mut [u8],
+    src: &[u8],
+    w: Writing,
+) -> Writing
     requires { (length frame.old ≡ 4099) × (131072 ≤ length output.old) }
 {
     let mut r = w;
     let mut start = 0;
     let mut end = line_end(src, 0);
     while end < src.len() {
-        r = put_next(output, frame, part(src, start, end - start), r);
+        r = put_next(rt, output, frame, part(src, start, end - start), r);
         start = end + 1;
         end = line_end(src, start);
     }
@@ -154,40 +173,60 @@ fn put_lines(output: &mut [u8], frame: &mut [u8], src: &[u8], w: Writing) -> Wri
 }
 
 // The last line may have no line end.
-fn put_last(output: &mut [u8], frame: &mut [u8], src: &[u8], w: Writing) -> Writing
+fn put_last(
+    rt: &(impl Print + Eprint),
+    output: &mut [u8],
+    frame: &mut [u8],
+    src: &[u8],
+    w: Writing,
+) -> Writing
     requires { (length frame.old ≡ 4099) × (131072 ≤ length output.old) }
 {
     if w.window.is_open {
         return w;
     }
-    let mut r = put_next(output, frame, src, w);
+    let mut r = put_next(rt, output, frame, src, w);
     r.goes_on = false;
     r
 }
 
 // Writes the records of the lines at hand, and reads more.
-fn turn(input: &mut [u8], output: &mut [u8], frame: &mut [u8], w: Writing) -> Writing
+fn turn(
+    rt: &(impl Print + Eprint),
+    from: &mut impl Read,
+    input: &mut [u8],
+    output: &mut [u8],
+    frame: &mut [u8],
+    w: Writing,
+) -> Writing
     requires { (length frame.old ≡ 4099) × (131072 ≤ length output.old) }
 {
-    let read = put_lines(output, frame, at_hand(input, w.window), w);
+    let read = put_lines(rt, output, frame, at_hand(input, w.window), w);
     let src = at_hand(input, read.window);
     let left = src.len();
-    let last = put_last(output, frame, src, read).unfinished(left);
-    let mut r = last.written(write_out(output, last.out));
+    let last = put_last(rt, output, frame, src, read).unfinished(left);
+    let mut r = last.written(rt, write_out(rt, output, last.out));
     if !r.goes_on {
         return r;
     }
-    r.window = refill(input, r.window);
+    r.window = refill(rt, from, input, r.window);
     r.goes_on = !r.window.has_failed;
     r
 }
 
 // As in `read`, the loop counts its turns down.
-fn records(input: &mut [u8], output: &mut [u8], frame: &mut [u8], count: usize)
+fn records(
+    rt: &(impl Print + Eprint),
+    from: &mut impl Read,
+    input: &mut [u8],
+    output: &mut [u8],
+    frame: &mut [u8],
+    count: usize,
+)
     requires { (length frame.old ≡ 4099) × (131072 ≤ length output.old) }
 {
     // Where nothing can be read, nothing is written.
-    let window = refill(input, Window::new());
+    let window = refill(rt, from, input, Window::new());
     if window.has_failed {
         return;
     }
@@ -195,7 +234,11 @@ fn records(input: &mut [u8], output: &mut [u8], frame: &mut [u8], count: usize)
         window,
         number: 1,
         is_too_long: false,
-        out: Out { count, works: true },
+        out: Out {
+            count,
+            works: true,
+            failed: None,
+        },
         goes_on: true,
     };
     let mut turns = u64::MAX;
@@ -203,17 +246,22 @@ fn records(input: &mut [u8], output: &mut [u8], frame: &mut [u8], count: usize)
         if !w.goes_on {
             break;
         }
-        w = turn(input, output, frame, w);
+        w = turn(rt, from, input, output, frame, w);
         turns -= 1;
     }
 }
 
-pub(crate) fn write(input: &mut [u8], output: &mut [u8])
+pub(crate) fn write(
+    rt: &(impl Print + Eprint),
+    from: &mut impl Read,
+    input: &mut [u8],
+    output: &mut [u8],
+)
     requires { 131072 ≤ length output.old }
 {
     let mut frame = [0u8; 4099];
     match write_header(output) {
-        WriteAnswer::Wrote(n) => records(input, output, &mut frame, n),
+        WriteAnswer::Wrote(n) => records(rt, from, input, output, &mut frame, n),
         WriteAnswer::Refused(_) => {}
     }
 }
