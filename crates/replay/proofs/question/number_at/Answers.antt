@@ -1,0 +1,25 @@
+use Rattle.std.proofs.Common.{sym, ◌∙◌, arith, rules}
+use Rattle.text.proofs.FindLaws.{from_at}
+use Rattle.replay.specs.Question.{number_then}
+use Rattle.text.specs.Bytes.{bytes}
+use Rattle.lines.proofs.CutLaws.{cut_there, cut-nowhere}
+use Rattle.replay.proofs.question.number_at.Goals as goal
+
+-- `number_at` meets its contract.
+pub returns-in_default : goal.returns-in_default
+unfolding number_then
+returns-in_default c = rw (cut-nowhere (bytes " ") c.args.line.now c.args.from (sym c.first_byte.ensures ∙ c.in_default.is))
+
+pub overflow_sub-i : goal.overflow_sub-i
+overflow_sub-i c = omega (arith, (from_at _ _ _ _ (sym c.first_byte.ensures ∙ c.in-At.is)).0)
+
+pub returns-in_default-decimal : goal.returns-in_default-decimal
+unfolding number_then
+returns-in_default-decimal c = rw (cut_there (bytes " ") c.args.line.now c.args.from c.in-At.i (sym c.first_byte.ensures ∙ c.in-At.is), ← c.part.ensures, ← c.decimal.ensures, c.in_default-decimal.is)
+
+pub overflow_add-result : goal.overflow_add-result
+overflow_add-result c = omega (arith, (from_at _ _ _ _ (sym c.first_byte.ensures ∙ c.in-At.is)).1)
+
+pub returns : goal.returns
+unfolding number_then
+returns c = rw (cut_there (bytes " ") c.args.line.now c.args.from c.in-At.i (sym c.first_byte.ensures ∙ c.in-At.is), ← c.part.ensures, ← c.decimal.ensures, c.in-Value.is)

@@ -1,0 +1,62 @@
+use Rattle.std.proofs.Common.{◌≡◌, ℕ, List, drop, sym, ◌∙◌, rules}
+use Rattle.replay.specs.Question.{words, kind_of}
+use Rattle.replay.proofs.QuestionLaws.{this_word, other_word}
+use Rattle.replay.proofs.question.writing_kind_of.Goals as goal
+use Rattle.replay.proofs.question.writing_kind_of.Goals.{Else-same, Else-same-2, Else-same-3, Else-same-4, Else-same-5, Else-same-6}
+
+-- `writing_kind_of` meets its contract: past a word that the name is not, the words after it decide.
+-- where the name is none of the words before the word k, those from k on decide
+abbrev Past : ℕ → List ℕ → Type 0
+Past k name = kind_of (drop 12 words) name ≡ kind_of (drop k words) name
+
+past1 : (c : Else-same) → Past 13 c.args.name.now
+unfolding words
+past1 c = other_word _ _ _ _ c.same.ensures c.if-same.false
+
+past2 : (c : Else-same-2) → Past 13 c.args.name.now → Past 14 c.args.name.now
+unfolding words
+past2 c h = h ∙ other_word _ _ _ _ c.same-2.ensures c.if-same-2.false
+
+past3 : (c : Else-same-3) → Past 14 c.args.name.now → Past 15 c.args.name.now
+unfolding words
+past3 c h = h ∙ other_word _ _ _ _ c.same-3.ensures c.if-same-3.false
+
+past4 : (c : Else-same-4) → Past 15 c.args.name.now → Past 16 c.args.name.now
+unfolding words
+past4 c h = h ∙ other_word _ _ _ _ c.same-4.ensures c.if-same-4.false
+
+past5 : (c : Else-same-5) → Past 16 c.args.name.now → Past 17 c.args.name.now
+unfolding words
+past5 c h = h ∙ other_word _ _ _ _ c.same-5.ensures c.if-same-5.false
+
+past6 : (c : Else-same-6) → Past 17 c.args.name.now → Past 18 c.args.name.now
+unfolding words
+past6 c h = h ∙ other_word _ _ _ _ c.same-6.ensures c.if-same-6.false
+
+pub returns-then-same : goal.returns-then-same
+unfolding words
+returns-then-same c = sym (this_word _ _ _ _ c.same.ensures c.if-same.true)
+
+pub returns-then-same-2 : goal.returns-then-same-2
+unfolding words
+returns-then-same-2 c = let a = goal.at.returns-then-same-2 c in sym (past1 a.Else-same ∙ this_word _ _ _ _ c.same-2.ensures c.if-same-2.true)
+
+pub returns-then-same-3 : goal.returns-then-same-3
+unfolding words
+returns-then-same-3 c = let a = goal.at.returns-then-same-3 c in sym (past2 a.Else-same-2 (past1 a.Else-same) ∙ this_word _ _ _ _ c.same-3.ensures c.if-same-3.true)
+
+pub returns-then-same-4 : goal.returns-then-same-4
+unfolding words
+returns-then-same-4 c = let a = goal.at.returns-then-same-4 c in sym (past3 a.Else-same-3 (past2 a.Else-same-2 (past1 a.Else-same)) ∙ this_word _ _ _ _ c.same-4.ensures c.if-same-4.true)
+
+pub returns-then-same-5 : goal.returns-then-same-5
+unfolding words
+returns-then-same-5 c = let a = goal.at.returns-then-same-5 c in sym (past4 a.Else-same-4 (past3 a.Else-same-3 (past2 a.Else-same-2 (past1 a.Else-same))) ∙ this_word _ _ _ _ c.same-5.ensures c.if-same-5.true)
+
+pub returns-then-same-6 : goal.returns-then-same-6
+unfolding words
+returns-then-same-6 c = let a = goal.at.returns-then-same-6 c in sym (past5 a.Else-same-5 (past4 a.Else-same-4 (past3 a.Else-same-3 (past2 a.Else-same-2 (past1 a.Else-same)))) ∙ this_word _ _ _ _ c.same-6.ensures c.if-same-6.true)
+
+pub returns : goal.returns
+unfolding words kind_of
+returns c = let a = goal.at.returns c in sym (past6 a.Else-same-6 (past5 a.Else-same-5 (past4 a.Else-same-4 (past3 a.Else-same-3 (past2 a.Else-same-2 (past1 a.Else-same))))))

@@ -1,0 +1,20 @@
+use Rattle.std.proofs.Common.{◌≡◌, ℕ, ◌-◌, List, length, sym, refl, ap, ◌∙◌, arith, rules}
+use Rattle.at.specs.Refusal.{refusal_of}
+use Rattle.at.specs.W36.{event_of}
+use Rattle.at.specs.Walk.{shown, walk_at, walk as walk_over}
+use Rattle.at.proofs.WalkLaws.{event-moves}
+use Rattle.render.specs.Print.{Prints}
+use Rattle.render.specs.Walk.{walk_line}
+use Rattle.render.proofs.PrintLaws.{prints_then}
+use Rattle.replay.proofs.WalkLaws.{walk-event, walk-ended, walk_refused}
+use Rattle.replay.proofs.walk.every_event.Given as goal
+
+-- `every_event` meets its contract: what completes the walk from its place on completes the whole. It ends, since each event moves the walk on, and
+-- not past the end of the bytes.
+abbrev pub invariant-loop-rest : goal.invariant-loop-rest
+invariant-loop-rest l =
+    (length l.output ≡ length l.initial.output)
+    × ((r : ℕ) (e : List ℕ) → Prints l.output l.to (walk_line l.src (walk_at l.src l.walk.at)) r e → Prints l.initial.output l.place (walk_line l.src (walk_over l.src)) r e)
+
+abbrev pub decreases-loop-rest : goal.decreases-loop-rest
+decreases-loop-rest l = length l.src - l.walk.at
