@@ -1,13 +1,16 @@
 // Frames out of a noisy serial dump: prints its ranges, a line each, with what each frame means, or writes its frames as a capture.
+#![tactic(auto)]
+
 mod put;
 mod total;
 mod window;
 
 use crate::put::Form;
 use crate::window::run;
-use libc::STDERR_FILENO;
 use pcap::WriteAnswer;
 use pcap::write::write_header;
+use std::env::{Env, FillError};
+use std::io::Read;
 use text::bytes::{part, same};
 
 #[derive(Clone, Copy)]
@@ -16,17 +19,29 @@ enum Asked {
     Unknown,
 }
 
+// Whether there is a second argument beside the program's name.
+fn has_second(rt: &impl Env) -> bool {
+    let mut given = [0u8; 1];
+    match rt.arg(2, &mut given) {
+        Ok(_) => true,
+        Err(FillError::TooLong) => true,
+        Err(FillError::NotPresent) => false,
+    }
+}
+
 // What the arguments ask for.
-fn what_is_asked() -> Asked {
+fn what_is_asked(rt: &impl Env) -> Asked {
     let mut given = [0u8; 16];
-    let n = os::arg(1, &mut given);
-    if os::arg_count() <= 1 {
-        return Asked::Form(Form::Lines);
+    match rt.arg(1, &mut given) {
+        Ok(n) => {
+            if !has_second(rt) && same(part(&given, 0, n), b"--pcap") {
+                return Asked::Form(Form::Capture);
+            }
+            Asked::Unknown
+        }
+        Err(FillError::TooLong) => Asked::Unknown,
+        Err(FillError::NotPresent) => Asked::Form(Form::Lines),
     }
-    if os::arg_count() == 2 && os::errno() == 0 && same(part(&given, 0, n), b"--pcap") {
-        return Asked::Form(Form::Capture);
-    }
-    Asked::Unknown
 }
 
 // A capture begins with its header.
@@ -41,22 +56,19 @@ fn begin(output: &mut [u8], form: Form) -> usize {
 }
 
 // The list has room for the ranges of any window, the output for the bytes of a range and those before it.
-fn dump(form: Form) {
+fn dump(rt: &(impl Print + Eprint), from: &mut impl Read, form: Form) {
     let mut input = [0u8; 65536];
     let mut list = [0u32; 56175];
     let mut output = [0u8; 131072];
     let count = begin(&mut output, form);
-    run(&mut input, &mut list, &mut output, form, count);
+    run(rt, from, &mut input, &mut list, &mut output, form, count);
 }
 
-fn main() {
-    match what_is_asked() {
-        Asked::Form(form) => dump(form),
+fn main(rt: HostRuntime) {
+    match what_is_asked(&rt) {
+        Asked::Form(form) => dump(&rt, &mut rt.stdin(), form),
         Asked::Unknown => {
-            io::write_all(
-                STDERR_FILENO,
-                b"dump: usage: dump <DUMP >LINES, or dump --pcap <DUMP >CAPTURE\n",
-            );
+            let _ = eprintln!(rt; "dump: usage: dump <DUMP >LINES, or dump --pcap <DUMP >CAPTURE");
         }
     }
 }

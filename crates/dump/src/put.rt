@@ -78,6 +78,7 @@ fn put_skipped(output: &mut [u8], at: usize, form: Form, end: usize, len: usize)
 
 // A frame at a place, after bytes that are skipped up to there.
 pub(crate) fn put_frame(
+    rt: &impl Print,
     output: &mut [u8],
     o: Out,
     form: Form,
@@ -88,7 +89,7 @@ pub(crate) fn put_frame(
     requires { (131072 ≤ length output.old) × (length frame.now ≤ 4099) }
     ensures { Holds output.old o (frame_bytes form place skipped frame.now) result output.new }
 {
-    let mut out = with_room(output, o);
+    let mut out = with_room(rt, output, o);
     let next = put_skipped(output, out.count, form, place, skipped);
     out.count = put_kept(output, next, form, place, frame);
     out
@@ -105,6 +106,7 @@ fn put_total(output: &mut [u8], at: usize, form: Form, t: Totals, size: usize) -
 
 // What is left to be put where the dump ends: bytes that are skipped up to there, and what was counted.
 pub(crate) fn put_end(
+    rt: &impl Print,
     output: &mut [u8],
     o: Out,
     form: Form,
@@ -115,7 +117,7 @@ pub(crate) fn put_end(
     requires { 131072 ≤ length output.old }
     ensures { Holds output.old o (skipped_bytes form end skipped ++ total_bytes form t end) result output.new }
 {
-    let mut out = with_room(output, o);
+    let mut out = with_room(rt, output, o);
     let next = put_skipped(output, out.count, form, end, skipped);
     out.count = put_total(output, next, form, t, end);
     out

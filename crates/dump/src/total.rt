@@ -27,9 +27,9 @@ pub(crate) fn count_frame(t: Totals, frame: &[u8]) -> Totals
     ensures { result ≡ counted_frame t frame.now }
 {
     let mut r = t;
-    r.kept = std::num::wrapping_add_u64(t.kept, 1);
+    r.kept = t.kept.wrapping_add(1);
     if is_refused(frame) {
-        r.refused = std::num::wrapping_add_u64(t.refused, 1);
+        r.refused = t.refused.wrapping_add(1);
     }
     r
 }
@@ -38,7 +38,7 @@ pub(crate) fn count_skipped(t: Totals, n: usize) -> Totals
     ensures { result ≡ counted_skipped t n }
 {
     let mut r = t;
-    r.skipped = std::num::wrapping_add_u64(t.skipped, n as u64);
+    r.skipped = t.skipped.wrapping_add(n as u64);
     r
 }
 

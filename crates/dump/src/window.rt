@@ -8,10 +8,11 @@ ghost use Rattle.dump.specs.Window.{Lists, after_kept, Reports, GoesOn, Buffers}
 use crate::put::{Form, put_end, put_frame};
 use crate::total::{Totals, count_frame, count_skipped};
 use lines::input::{move_to_front, read_full};
-use lines::output::{Out, write_out};
+use lines::output::{Out, say_failure, write_out};
 use scan::listed::{Listed, range_at};
 use scan::window::{decided_bytes, decided_places};
 use scan::{ScanAnswer, scan};
+use std::io::Read;
 use text::bytes::part;
 
 // A dump in which a window begins at a place: how many bytes of that window are at hand, how many of them are reported or skipped for good, how many
@@ -28,12 +29,19 @@ pub(crate) struct Dumping {
 }
 
 // A frame at a place of the dump.
-fn keep(output: &mut [u8], form: Form, place: usize, frame: &[u8], d: Dumping) -> Dumping
+fn keep(
+    rt: &impl Print,
+    output: &mut [u8],
+    form: Form,
+    place: usize,
+    frame: &[u8],
+    d: Dumping,
+) -> Dumping
     requires { (131072 ≤ length output.old) × (length frame.now ≤ 4099) }
     ensures { (result ≡ after_kept d d.used frame.now result.out) × Holds output.old d.out (frame_bytes form place d.pending frame.now) result.out output.new }
 {
     let mut r = d;
-    r.out = put_frame(output, d.out, form, place, d.pending, frame);
+    r.out = put_frame(rt, output, d.out, form, place, d.pending, frame);
     r.pending = 0;
     r.totals = count_frame(d.totals, frame);
     r
@@ -41,6 +49,7 @@ fn keep(output: &mut [u8], form: Form, place: usize, frame: &[u8], d: Dumping) -
 
 // The first `n` bytes of a range, which are decided.
 pub(crate) fn report(
+    rt: &impl Print,
     output: &mut [u8],
     form: Form,
     src: &[u8],
@@ -52,18 +61,19 @@ pub(crate) fn report(
     ensures { Reports form src.now range n d output.old result output.new }
 {
     let mut r = d;
-    r.used = std::num::wrapping_add_usize(range.start, n);
+    r.used = range.start.wrapping_add(n);
     if range.kept {
-        let place = std::num::wrapping_add_usize(d.place, range.start);
-        return keep(output, form, place, part(src, range.start, n), r);
+        let place = d.place.wrapping_add(range.start);
+        return keep(rt, output, form, place, part(src, range.start, n), r);
     }
-    r.pending = std::num::wrapping_add_usize(d.pending, n);
+    r.pending = d.pending.wrapping_add(n);
     r.totals = count_skipped(d.totals, n);
     r
 }
 
 // The ranges of a window, as far as they are decided.
 fn ranges(
+    rt: &impl Print,
     output: &mut [u8],
     form: Form,
     src: &[u8],
@@ -83,7 +93,7 @@ fn ranges(
         if n == 0 {
             break;
         }
-        r = report(output, form, src, range, n, r);
+        r = report(rt, output, form, src, range, n, r);
         i += 1;
     }
     r
@@ -91,6 +101,7 @@ fn ranges(
 
 // A window, with which the dump ends or not.
 fn window(
+    rt: &impl Print,
     output: &mut [u8],
     form: Form,
     src: &[u8],
@@ -103,6 +114,7 @@ fn window(
 {
     match scan(src, list) {
         ScanAnswer::Ranges(count) => ranges(
+            rt,
             output,
             form,
             src,
@@ -117,44 +129,60 @@ fn window(
 }
 
 // At the dump's end, what is left to be reported.
-fn end(output: &mut [u8], form: Form, is_end: bool, d: Dumping) -> Out
+fn end(rt: &impl Print, output: &mut [u8], form: Form, is_end: bool, d: Dumping) -> Out
     requires { 131072 ≤ length output.old }
 {
     if is_end {
-        let place = std::num::wrapping_add_usize(d.place, d.used);
-        return put_end(output, d.out, form, place, d.pending, d.totals);
+        let place = d.place.wrapping_add(d.used);
+        return put_end(rt, output, d.out, form, place, d.pending, d.totals);
     }
     d.out
 }
 
 // Reads on until the window is full or the dump ends, and carries over what is not decided yet.
-fn turn(input: &mut [u8], list: &mut [u32], output: &mut [u8], form: Form, d: Dumping) -> Dumping
+fn turn(
+    rt: &(impl Print + Eprint),
+    from: &mut impl Read,
+    input: &mut [u8],
+    list: &mut [u32],
+    output: &mut [u8],
+    form: Form,
+    d: Dumping,
+) -> Dumping
     requires { Buffers input.old list.old output.old }
 {
     let mut r = d;
-    let got = read_full(input, d.held);
-    if got.failed {
-        os::fail(b"dump: cannot read standard input");
+    let got = read_full(from, input, d.held);
+    if got.failed.is_some() {
+        say_failure(rt, "dump: cannot read standard input", got.failed);
         r.goes_on = false;
         return r;
     }
     let is_end = got.count < input.len();
     r.used = 0;
-    r = window(output, form, part(input, 0, got.count), list, is_end, r);
-    let out = end(output, form, is_end, r);
-    r.out = write_out(output, out);
+    r = window(rt, output, form, part(input, 0, got.count), list, is_end, r);
+    let out = end(rt, output, form, is_end, r);
+    r.out = write_out(rt, output, out);
     r.held = move_to_front(input, r.used, got.count);
-    r.place = std::num::wrapping_add_usize(r.place, r.used);
+    r.place = r.place.wrapping_add(r.used);
     r.goes_on = !is_end;
     if !r.out.works {
-        os::fail(b"dump: cannot write standard output");
+        say_failure(rt, "dump: cannot write standard output", r.out.failed);
         r.goes_on = false;
     }
     r
 }
 
 // A proved loop has to end, and nothing says that the input does. So the loop counts its turns down, from a number that no run uses up.
-pub(crate) fn run(input: &mut [u8], list: &mut [u32], output: &mut [u8], form: Form, count: usize)
+pub(crate) fn run(
+    rt: &(impl Print + Eprint),
+    from: &mut impl Read,
+    input: &mut [u8],
+    list: &mut [u32],
+    output: &mut [u8],
+    form: Form,
+    count: usize,
+)
     requires { Buffers input.old list.old output.old }
 {
     let mut d = Dumping {
@@ -167,7 +195,11 @@ pub(crate) fn run(input: &mut [u8], list: &mut [u32], output: &mut [u8], form: F
             refused: 0,
             skipped: 0,
         },
-        out: Out { count, works: true },
+        out: Out {
+            count,
+            works: true,
+            failed: None,
+        },
         goes_on: true,
     };
     let mut turns = u64::MAX;
@@ -175,7 +207,7 @@ pub(crate) fn run(input: &mut [u8], list: &mut [u32], output: &mut [u8], form: F
         if !d.goes_on {
             break;
         }
-        d = turn(input, list, output, form, d);
+        d = turn(rt, from, input, list, output, form, d);
         turns -= 1;
     }
 }
