@@ -17,7 +17,7 @@ use text::bytes::part;
 pub(crate) const LONGEST: usize = 16384;
 
 // The table after the line, and the place just past the answer.
-#[derive(Clone, Copy)]
+#[derive(Drop)]
 pub(crate) struct Answered {
     pub table: Channels,
     pub place: usize,
@@ -48,16 +48,16 @@ fn replied(
     match question {
         Question::Frame(n) => feed(output, place, part(frame, 0, n), table),
         Question::Row(channel) => Answered {
+            place: put_row(output, place, channel, row_of(&table, channel)),
             table,
-            place: put_row(output, place, channel, row_of(table, channel)),
         },
         Question::Rows => Answered {
+            place: put_rows(output, place, &table),
             table,
-            place: put_rows(output, place, table),
         },
         Question::Counts => Answered {
+            place: put_counts(output, place, counts_of(&table)),
             table,
-            place: put_counts(output, place, counts_of(table)),
         },
         Question::Nothing => Answered {
             table,

@@ -56,8 +56,8 @@ fn put_open(output: &mut [u8], at: usize, channel: Channel, row: Row) -> usize
 }
 
 // The rows of all open channels.
-pub(crate) fn put_rows(output: &mut [u8], at: usize, table: Channels) -> usize
-    ensures { Prints output.old at (open_rows (view table) 256 ++ bytes "end") result output.new × (length (open_rows (view table) 256) ≤ 9216) }
+pub(crate) fn put_rows(output: &mut [u8], at: usize, table: &Channels) -> usize
+    ensures { Prints output.old at (open_rows (view table.now) 256 ++ bytes "end") result output.new × (length (open_rows (view table.now) 256) ≤ 9216) }
 {
     let mut to = at;
     let mut i: usize = 0;

@@ -1,4 +1,4 @@
-// The table by value. Each call here lends it to one call of `channels`; the checker covers whatever uses these.
+// The table as the other files use it: moved to what changes it, and lent to what reads it. Each call here lends it to one call of `channels`.
 ghost use Rattle.std.specs.Prelude.{◌≡◌};
 ghost use Rattle.channels.specs.Machine.{step};
 ghost use Rattle.channels.specs.View.{view};
@@ -15,14 +15,14 @@ pub(crate) fn fed(table: Channels, frame: &[u8]) -> Channels
     t
 }
 
-pub(crate) fn row_of(table: Channels, c: Channel) -> Row
-    ensures { result ≡ (view table).rows c.0 }
+pub(crate) fn row_of(table: &Channels, c: Channel) -> Row
+    ensures { result ≡ (view table.now).rows c.0 }
 {
-    channels::row(&table, c)
+    channels::row(table, c)
 }
 
-pub(crate) fn counts_of(table: Channels) -> Counts
-    ensures { result ≡ (view table).counts }
+pub(crate) fn counts_of(table: &Channels) -> Counts
+    ensures { result ≡ (view table.now).counts }
 {
-    channels::counts(&table)
+    channels::counts(table)
 }
