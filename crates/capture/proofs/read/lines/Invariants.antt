@@ -1,0 +1,11 @@
+use Rattle.std.proofs.Common.{◌≡◌, ◌-◌, ◌≤◌, length, sym, refl, ap, ◌∙◌, arith, rules}
+use Rattle.pcap.specs.Read.{record_shown}
+use Rattle.pcap.proofs.ReadLaws.{found-places}
+use Rattle.capture.proofs.read.lines.Given as goal
+
+-- `read::lines` is safe, and ends: each record leads to a later place, and not past the end of the bytes. Assumes nothing.
+abbrev pub invariant-loop-r : goal.invariant-loop-r
+invariant-loop-r g l = (l.at ≤ length l.src) × (length l.output ≡ length l.initial.output)
+
+abbrev pub decreases-loop-r : goal.decreases-loop-r
+decreases-loop-r g l = length l.src - l.at
