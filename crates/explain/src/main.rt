@@ -1,5 +1,7 @@
 // Explains the first 4,100 bytes of standard input as one EDM frame, or as a line, a binary event or a response: a page of text or of HTML that shows
 // which bytes each field came from, or which check refused it and at which byte.
+#![tactic(auto)]
+
 mod dump;
 mod event;
 mod fields;
@@ -17,8 +19,10 @@ mod verdict;
 
 use crate::page::page;
 use crate::subject::Kind;
-use libc::{STDERR_FILENO, STDOUT_FILENO};
 use lines::input::read_full;
+use lines::output::say_failure;
+use std::env::{Env, FillError};
+use std::io::Read;
 use text::bytes::{part, same};
 
 // What the arguments ask for, if they are understood.
@@ -28,43 +32,56 @@ enum Asked {
     Unknown,
 }
 
-// Whether the argument with a number is a word; a missing one is empty.
-fn is_word(i: usize, word: &[u8]) -> bool {
+// Whether the argument with a number is a word; a missing one is none.
+fn is_word(rt: &impl Env, i: usize, word: &[u8]) -> bool {
     let mut given = [0u8; 16];
-    let n = os::arg(i, &mut given);
-    os::errno() == 0 && same(part(&given, 0, n), word)
+    match rt.arg(i, &mut given) {
+        Ok(n) => same(part(&given, 0, n), word),
+        Err(_) => false,
+    }
 }
 
-// The kind that the argument with a number names, which has to be the last.
-fn asked_kind(i: usize, html: bool) -> Asked {
-    if os::arg_count() <= i {
+// Whether there is an argument with a number.
+fn has_argument(rt: &impl Env, i: usize) -> bool {
+    let mut given = [0u8; 1];
+    match rt.arg(i, &mut given) {
+        Ok(_) => true,
+        Err(FillError::TooLong) => true,
+        Err(FillError::NotPresent) => false,
+    }
+}
+
+// The kind that the argument after `--html` names, or else the first one. It has to be the last.
+fn asked_kind(rt: &impl Env, html: bool) -> Asked {
+    let i = if html { 2 } else { 1 };
+    if !has_argument(rt, i) {
         return Asked::Page {
             kind: Kind::Frame,
             html,
         };
     }
-    if i + 1 < os::arg_count() {
+    if has_argument(rt, i + 1) {
         return Asked::Unknown;
     }
-    if is_word(i, b"w26") {
+    if is_word(rt, i, b"w26") {
         return Asked::Page {
             kind: Kind::W26,
             html,
         };
     }
-    if is_word(i, b"w36") {
+    if is_word(rt, i, b"w36") {
         return Asked::Page {
             kind: Kind::W36,
             html,
         };
     }
-    if is_word(i, b"binary") {
+    if is_word(rt, i, b"binary") {
         return Asked::Page {
             kind: Kind::Binary,
             html,
         };
     }
-    if is_word(i, b"response") {
+    if is_word(rt, i, b"response") {
         return Asked::Page {
             kind: Kind::Response,
             html,
@@ -73,37 +90,40 @@ fn asked_kind(i: usize, html: bool) -> Asked {
     Asked::Unknown
 }
 
-fn request() -> Asked {
-    if is_word(1, b"--html") {
-        asked_kind(2, true)
+fn request(rt: &impl Env) -> Asked {
+    if is_word(rt, 1, b"--html") {
+        asked_kind(rt, true)
     } else {
-        asked_kind(1, false)
+        asked_kind(rt, false)
     }
 }
 
 // A byte of the input takes at most 90 of the page (html.rt), so there is room for 4,100 of them and all else.
-fn explain(kind: Kind, html: bool) {
+fn explain(rt: &(impl Print + Eprint), from: &mut impl Read, kind: Kind, html: bool) {
     let mut input = [0u8; 4100];
-    let got = read_full(&mut input, 0);
-    if got.failed {
-        os::fail(b"explain: cannot read standard input");
+    let got = read_full(from, &mut input, 0);
+    if got.failed.is_some() {
+        say_failure(rt, "explain: cannot read standard input", got.failed);
         return;
     }
     let mut out = [0u8; 524288];
     let n = page(&mut out, part(&input, 0, got.count), kind, html);
-    if !io::write_all(STDOUT_FILENO, part(&out, 0, n)) {
-        os::fail(b"explain: cannot write standard output");
+    if let Err(e) = rt.write_all(part(&out, 0, n)) {
+        say_failure(rt, "explain: cannot write standard output", Some(e));
     }
 }
 
-fn main() {
-    match request() {
-        Asked::Page { kind, html } => explain(kind, html),
+fn run(rt: &(impl Print + Eprint + Env), from: &mut impl Read) {
+    match request(rt) {
+        Asked::Page { kind, html } => explain(rt, from, kind, html),
         Asked::Unknown => {
-            io::write_all(
-                STDERR_FILENO,
-                b"explain: usage: explain [--html] [w26|w36|binary|response], with the input on standard input\n",
+            let _ = eprintln!(rt;
+                "explain: usage: explain [--html] [w26|w36|binary|response], with the input on standard input"
             );
         }
     }
+}
+
+fn main(rt: HostRuntime) {
+    run(&rt, &mut rt.stdin());
 }
