@@ -1,4 +1,3 @@
-pub mod LocalTable
 pub mod ReplyRoom
 pub mod ReplyLaws
 pub mod Examples

@@ -3,6 +3,10 @@ use Prim.Native.Nat.{ℕ}
 use mathlib.Core.Path.{◌≡◌, refl, ap, ◌∙◌}
 use mathlib.Core.List.{List, [], ◌∷◌, ◌++◌}
 use contract.Lifetimes.{Lfts}
+use denote.Param.Laws.{Laws}
+use denote.RattleType.{RattleType}
+use mir.Syntax.{Dict}
+use Rattle.std.specs.declared.io.Print as Print
 use denote.Triple.Clauses.{AtExit}
 use borrow.Fn.Kinds.{Dens, ended_of}
 use Rattle.channels.specs.declared.Channels.{Channels}
@@ -14,23 +18,23 @@ use Rattle.commission.specs.declared.session.Session.{Session}
 use Rattle.commission.proofs.session.answered as answered
 
 -- a call that answered a line
-pub record Answering : Type 0 where
-  pub lifetimes : Lfts 3
-  pub args : Dens lifetimes answered.Kinds.ps
+pub record Answering (T : RattleType) (L : Laws T) (g : Print.Ghosts T.Denot) (d : Dict) : Type 0 where
+  pub lifetimes : Lfts 5
+  pub args : Dens lifetimes (answered.Kinds.ps T L)
   pub session : Session
-  pub exit : AtExit (ended_of 3 answered.Kinds.ps answered.Kinds.r) lifetimes
-  pub allowed : answered.Reads.Post lifetimes args session exit
+  pub exit : AtExit (ended_of 5 (answered.Kinds.ps T L) (answered.Kinds.r T L)) lifetimes
+  pub allowed : answered.Reads.Post T L g d lifetimes args session exit
 
-abbrev pub table_before : Answering → Channels
-table_before c = c.args.1.1.1.0.table
+abbrev pub table_before : (T : RattleType) (L : Laws T) (g : Print.Ghosts T.Denot) (d : Dict) → Answering T L g d → Channels
+table_before T L g d c = c.args.1.1.1.1.0.table
 
-abbrev pub asked_by : Answering → Asked
-asked_by c = asked_in c.args.1.1.1.0.is_too_long c.args.1.1.0.now
+abbrev pub asked_by : (T : RattleType) (L : Laws T) (g : Print.Ghosts T.Denot) (d : Dict) → Answering T L g d → Asked
+asked_by T L g d c = asked_in c.args.1.1.1.1.0.is_too_long c.args.1.1.1.0.now
 
 -- calls one after the other, each with the table that the one before it left
-pub data Lines : Channels → Channels → Type 0 where
-  none : {t : Channels} → Lines t t
-  then : {t w : Channels} (c : Answering) → table_before c ≡ t → Lines c.session.table w → Lines t w
+pub data Lines (T : RattleType) (L : Laws T) (g : Print.Ghosts T.Denot) (d : Dict) : Channels → Channels → Type 0 where
+  none : {t : Channels} → Lines T L g d t t
+  then : {t w : Channels} (c : Answering T L g d) → table_before T L g d c ≡ t → Lines T L g d c.session.table w → Lines T L g d t w
 
 abbrev pub frame_in : Asked → List (List ℕ)
 frame_in (feeds frame) = frame ∷ []
@@ -39,9 +43,9 @@ frame_in asksRows = []
 frame_in asksCounts = []
 frame_in nothing = []
 
-abbrev pub frames_in : {t w : Channels} → Lines t w → List (List ℕ)
-frames_in none = []
-frames_in (then c e r) = frame_in (asked_by c) ++ frames_in r
+abbrev pub frames_in : (T : RattleType) (L : Laws T) (g : Print.Ghosts T.Denot) (d : Dict) {t w : Channels} → Lines T L g d t w → List (List ℕ)
+frames_in T L g d none = []
+frames_in T L g d (then c e r) = frame_in (asked_by T L g d c) ++ frames_in T L g d r
 
 run_on : (m : Machine) (a : Asked) (frames : List (List ℕ)) → run (after m a) frames ≡ run m (frame_in a ++ frames)
 unfolding run
@@ -51,10 +55,10 @@ run_on m asksRows frames = refl
 run_on m asksCounts frames = refl
 run_on m nothing frames = refl
 
-pub lines_are_run : {t w : Channels} (r : Lines t w) → view w ≡ run (view t) (frames_in r)
+pub lines_are_run : (T : RattleType) (L : Laws T) (g : Print.Ghosts T.Denot) (d : Dict) {t w : Channels} (r : Lines T L g d t w) → view w ≡ run (view t) (frames_in T L g d r)
 unfolding run
-lines_are_run none = refl
-lines_are_run {t} (then c e r) =
-    lines_are_run r
-    ∙ ap (λ (m : Machine). run m (frames_in r)) (c.allowed.1 ∙ ap (λ (u : Channels). after (view u) (asked_by c)) e)
-    ∙ run_on (view t) (asked_by c) (frames_in r)
+lines_are_run T L g d none = refl
+lines_are_run T L g d {t} (then c e r) =
+    lines_are_run T L g d r
+    ∙ ap (λ (m : Machine). run m (frames_in T L g d r)) (c.allowed.1 ∙ ap (λ (u : Channels). after (view u) (asked_by T L g d c)) e)
+    ∙ run_on (view t) (asked_by T L g d c) (frames_in T L g d r)

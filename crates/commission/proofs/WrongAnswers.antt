@@ -6,6 +6,10 @@ use mathlib.Core.List.{List, [], ◌∷◌, ◌++◌}
 use mathlib.Core.Bool.{true, false}
 use native.Mathlib.Omega.{arith}
 use contract.Lifetimes.{Lfts}
+use denote.Param.Laws.{Laws}
+use denote.RattleType.{RattleType}
+use mir.Syntax.{Dict}
+use Rattle.std.specs.declared.io.Print as Print
 use denote.Triple.Clauses.{AtExit}
 use borrow.Fn.Kinds.{Dens, ended_of}
 use Rattle.text.specs.Bytes.{bytes, same, starts_with}
@@ -35,19 +39,20 @@ address_as_sent channel a b c d port ha hb hc hd =
     let fourth : n % 256 ≡ d = omega arith in
     rw (first, second, third, fourth)
 
-module _ (κs : Lfts 3) (a : Dens κs answered.Kinds.ps) (x : Session) (e : AtExit (ended_of 3 answered.Kinds.ps answered.Kinds.r) κs) (p : answered.Reads.Post κs a x e) where
+module _ (T : RattleType) (L : Laws T) (g : Print.Ghosts T.Denot) (d : Dict) (κs : Lfts 5) (a : Dens κs (answered.Kinds.ps T L)) (x : Session)
+    (e : AtExit (ended_of 5 (answered.Kinds.ps T L) (answered.Kinds.r T L)) κs) (p : answered.Reads.Post T L g d κs a x e) where
   abbrev earlier : Session
-  earlier = a.1.1.1.0
+  earlier = a.1.1.1.1.0
 
   abbrev line : List ℕ
-  line = a.1.1.0.now
+  line = a.1.1.1.0.now
 
   abbrev m : Machine
   m = view earlier.table
 
   -- this is written, after what was to be written before, and the table is then this
   abbrev Leaves : List ℕ → Machine → Type 0
-  Leaves r n = Holds a.0.now earlier.out r x.out e.0.now × (view x.table ≡ n)
+  Leaves r n = Holds a.1.0.now earlier.out r x.out e.1.0.now × (view x.table ≡ n)
 
   leaves : (q : Asked) → asked_in earlier.is_too_long line ≡ q → Leaves (answer_line m q) (after m q)
   leaves q h = rw h at p

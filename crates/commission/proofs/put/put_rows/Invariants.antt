@@ -1,0 +1,15 @@
+use Prim.Native.Nat.{◌-◌, ◌≤◌}
+use mathlib.Core.Path.{◌≡◌, refl, ◌∙◌}
+use native.Mathlib.Omega.{arith}
+use lib.ListN.{length}
+use Rattle.render.proofs.PrintLaws.{prints_then}
+use Rattle.channels.specs.View.{view}
+use Rattle.commission.proofs.ReplyLaws.{RowsPrinted, no_rows, one-row-more}
+use Rattle.commission.proofs.put.put_rows.Given as goal
+
+-- `put::put_rows` meets its contract. Assumes nothing.
+abbrev pub invariant-loop-i : goal.invariant-loop-i
+invariant-loop-i l = (length l.output ≡ length l.initial.output) × (l.i ≤ 256) × RowsPrinted (view l.table) l.i l.initial.output l.at l.to l.output
+
+abbrev pub decreases-loop-i : goal.decreases-loop-i
+decreases-loop-i l = 256 - l.i

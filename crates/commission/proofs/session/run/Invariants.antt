@@ -1,0 +1,10 @@
+use mathlib.Core.Path.{◌≡◌}
+use lib.ListN.{length}
+use Rattle.commission.proofs.session.run.Given as goal
+
+-- `session::run` is safe and ends: a turn is counted down. Assumes nothing.
+abbrev pub invariant-loop-turns : goal.invariant-loop-turns
+invariant-loop-turns g l = (length l.input ≡ length l.initial.input) × (length l.output ≡ length l.initial.output) × (length l.frame ≡ length l.initial.frame)
+
+abbrev pub decreases-loop-turns : goal.decreases-loop-turns
+decreases-loop-turns g l = l.turns
