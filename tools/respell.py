@@ -26,9 +26,9 @@ def declared(path):
     """Names that a file declares: definitions, lemmas, constructors, fields, and those after `as` in its imports."""
     found = set()
     for line in read(path).split("\n"):
-        head = re.match(rf"\s*(?:(?:abbrev|unfoldable|pub)\s+)*({NAME})\s+:\s", line)
+        head = re.match(rf"\s*(?:(?:abbrev|unfoldable|pub)\s+)*((?:{NAME}\s+)+):\s", line)
         if head:
-            found.add(head[1])
+            found.update(head[1].split())
         if line.startswith("use "):
             found.update(re.findall(rf" as ({NAME})", line))
     return found
@@ -93,7 +93,7 @@ def renamed():
 
 # Lemmas that port.py gave the name that a definition gets here, and modules of functions that an import calls so
 LEMMAS = set(
-    "after_kept all_hold by_last by_name fields_back in_source next_field no_fields one_byte one_from passed_over room_after short_row "
+    "after_kept all_hold by_last by_name connect_event fields_back in_list in_source next_field no_fields one_byte one_from passed_over room_after short_row "
     "some_bytes text_at too_large too_long two_bytes".split()
 )
 MODULES = {"inside_character", "next_field", "no_fields", "valid_up_to"}
@@ -108,7 +108,7 @@ def turn(text):
                 continue
             if end == "_lem" and re.search(rf" as {name}$", text, re.M):
                 continue
-            text = re.sub(rf"(?<![\w.'-]){name}(?![\w'-])", name + end, text)
+            text = re.sub(rf"(?<![\w.:'-]){name}(?![\w'-])", name + end, text)
     return TOKEN.sub(lambda it: it[0] if it[0][0] == '"' else TO.get(it[0], it[0]), text)
 
 

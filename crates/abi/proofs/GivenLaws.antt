@@ -12,7 +12,7 @@ use lib.ListN.{length, take, drop, get_or, set, replicate, length-append, length
 use lib.Seq.{drop-cons, drop-drop, get_or-drop, get_or-take, length-take-le, take_all, take_at}
 use Rattle.text.proofs.Bools.{either, and_left, and_right}
 use Rattle.at.specs.Refusal.{good, refused, no}
-use Rattle.at.specs.Event.{Kind, bits, text, ipType, btType, protocol, reason, Row, kinds_of, Value, num, place, event}
+use Rattle.at.specs.Event.{Kind, bits, text, ip_type, bt_type, protocol, reason, Row, kinds_of, Value, num, place, event}
 use Rattle.at.specs.Parts.{value_of, values_of, row_no, part_of, part_no, parts_of}
 use Rattle.at.specs.Table.{letters_at, spelled}
 use Rattle.at.specs.Typed.{holds}
@@ -31,8 +31,8 @@ use Rattle.abi.specs.declared.given.Given as goal
 pub width-most : (k : Kind) → width k ≤ 2
 width-most (bits w) = omega arith
 width-most text = omega arith
-width-most ipType = omega arith
-width-most btType = omega arith
+width-most ip_type = omega arith
+width-most bt_type = omega arith
 width-most protocol = omega arith
 width-most reason = omega arith
 
@@ -40,16 +40,16 @@ width-most reason = omega arith
 pub two_numbers : (k : Kind) (row : List ℕ) (at : ℕ) → width k ≡ 2 → value_at k row at ≡ place (number row at) (number row (suc at))
 two_numbers (bits w) row at h = absurd (omega arith)
 two_numbers text row at h = refl
-two_numbers ipType row at h = absurd (omega arith)
-two_numbers btType row at h = absurd (omega arith)
+two_numbers ip_type row at h = absurd (omega arith)
+two_numbers bt_type row at h = absurd (omega arith)
 two_numbers protocol row at h = absurd (omega arith)
 two_numbers reason row at h = absurd (omega arith)
 
 pub one_number : (k : Kind) (row : List ℕ) (at : ℕ) → (width k ≡ 2 → ⊥) → value_at k row at ≡ num (number row at)
 one_number (bits w) row at h = refl
 one_number text row at h = absurd (h refl)
-one_number ipType row at h = refl
-one_number btType row at h = refl
+one_number ip_type row at h = refl
+one_number bt_type row at h = refl
 one_number protocol row at h = refl
 one_number reason row at h = refl
 
@@ -70,8 +70,8 @@ narrow_letter c =
     either Small (eqb c 98) (small (bits 8) (λ n h. le-ltb n 256 (omega arith)))
     (either Small (eqb c 119) (small (bits 16) (λ n h. le-ltb n 65536 (omega arith)))
     (either Small (eqb c 108) (small (bits 32) (λ n h. le-ltb n 4294967296 h))
-    (either Small (eqb c 105) (small ipType (λ n h. rw (ne_eqb n 2 (λ e. omega arith), ne_eqb n 3 (λ e. omega arith))))
-    (either Small (eqb c 116) (small btType (λ n h. ne_eqb n 1 (λ e. omega arith)))
+    (either Small (eqb c 105) (small ip_type (λ n h. rw (ne_eqb n 2 (λ e. omega arith), ne_eqb n 3 (λ e. omega arith))))
+    (either Small (eqb c 116) (small bt_type (λ n h. ne_eqb n 1 (λ e. omega arith)))
     (either Small (eqb c 112) (small protocol (λ n h. rw (ne_eqb n 1 (λ e. omega arith), ne_eqb n 2 (λ e. omega arith), ne_eqb n 6 (λ e. omega arith))))
     (either Small (eqb c 114) (small reason (λ n h. lt-leb n 5 (omega arith))) (record { below = λ n w e. absurd (w refl) })))))))
 

@@ -11,7 +11,7 @@ use borrow.Author.Tests.{lt-ltb, le-ltb, ne_eqb}
 use lib.Dec.{eqb}
 use lib.ListN.{length, drop}
 use Rattle.at.specs.Refusal.{Refusal, no, missing, invalid, number_of, OrRefused, good, refused}
-use Rattle.at.specs.Event.{Kind, bits, text, ipType, btType, protocol, reason, Row, row, kinds_of, Value, num, place, Event, event, ReadEvent, event_to}
+use Rattle.at.specs.Event.{Kind, bits, text, ip_type, bt_type, protocol, reason, Row, row, kinds_of, Value, num, place, Event, event, ReadEvent, event_to}
 use Rattle.at.specs.Parts.{row_no}
 use Rattle.at.specs.Line.{read_line}
 use Rattle.at.specs.Binary.{Tried, not_binary, tried, try_rows}
@@ -29,7 +29,7 @@ use Rattle.at.proofs.PartsLaws.{firsts, row_number}
 use Rattle.at.proofs.TableTests.{roomy-w26, roomy-w36, roomy-binary, firsts_w26, firsts_w36}
 use Rattle.at.proofs.TypedLaws.{trims_26, trims_36, line_typed, rows-typed, response-typed, step_typed}
 use Rattle.at.proofs.WhyLaws.{line_seven, binary-seven, response-plain, nothing-seven}
-use Rattle.edm.specs.Packet.{Packet, connectEvent, disconnectEvent, dataPacket, dataCommand, at_request, at_response, at_packet, resendPacket, startPacket}
+use Rattle.edm.specs.Packet.{Packet, connect_event, disconnect_event, data_packet, data_command, at_request, at_response, at_packet, resend_packet, start_packet}
 use Rattle.edm.specs.Frame.{read_frame}
 use Rattle.edm.specs.Typed.{Part, LaidOut, connect_layout, data_layout, PacketTyped}
 use Rattle.edm.specs.Typed as layout
@@ -50,8 +50,8 @@ is_place (place p n) = true
 abbrev is_text : Kind → Bool
 is_text (bits w) = false
 is_text text = true
-is_text ipType = false
-is_text btType = false
+is_text ip_type = false
+is_text bt_type = false
 is_text protocol = false
 is_text reason = false
 
@@ -73,10 +73,10 @@ module _ (s : List ℕ) where
   kind_shaped (bits w) (place p n) h = absurd h
   kind_shaped text (num n) h = absurd h
   kind_shaped text (place p n) h = refl
-  kind_shaped ipType (num n) h = refl
-  kind_shaped ipType (place p n) h = absurd h
-  kind_shaped btType (num n) h = refl
-  kind_shaped btType (place p n) h = absurd h
+  kind_shaped ip_type (num n) h = refl
+  kind_shaped ip_type (place p n) h = absurd h
+  kind_shaped bt_type (num n) h = refl
+  kind_shaped bt_type (place p n) h = absurd h
   kind_shaped protocol (num n) h = refl
   kind_shaped protocol (place p n) h = absurd h
   kind_shaped reason (num n) h = refl
@@ -306,28 +306,28 @@ response_injective =
 -- a frame
 abbrev packet_by : ℕ → List ℕ → Packet
 packet_by id ns =
-    cond (eqb id 0x11) (connectEvent (values_in (map is_bytes connect_layout) ns))
-    (cond (eqb id 0x21) (disconnectEvent (values_in (map is_bytes (layout.number ∷ [])) ns))
-    (cond (eqb id 0x31) (dataPacket (values_in (map is_bytes data_layout) ns))
-    (cond (eqb id 0x36) (dataCommand (values_in (map is_bytes data_layout) ns))
+    cond (eqb id 0x11) (connect_event (values_in (map is_bytes connect_layout) ns))
+    (cond (eqb id 0x21) (disconnect_event (values_in (map is_bytes (layout.number ∷ [])) ns))
+    (cond (eqb id 0x31) (data_packet (values_in (map is_bytes data_layout) ns))
+    (cond (eqb id 0x36) (data_command (values_in (map is_bytes data_layout) ns))
     (cond (eqb id 0x44) (at_request (place (number ns 0) (number ns 1)))
     (cond (eqb id 0x45) (at_response (response_from ns))
-    (cond (eqb id 0x41) (at_packet (event_from kinds26 w26.table ns)) (cond (eqb id 0x56) resendPacket startPacket)))))))
+    (cond (eqb id 0x41) (at_packet (event_from kinds26 w26.table ns)) (cond (eqb id 0x56) resend_packet start_packet)))))))
 
 abbrev packet_from : List ℕ → Packet
 packet_from ns = packet_by (number ns 0) (drop 1 ns)
 
 packet_back : (s : List ℕ) (p : Packet) → PacketTyped s p → packet_from (packet_numbers p) ≡ p
-packet_back s (connectEvent vs) h = ap connectEvent (laid_back connect_layout vs h)
-packet_back s (disconnectEvent vs) h = ap disconnectEvent (laid_back (layout.number ∷ []) vs h)
-packet_back s (dataPacket vs) h = ap dataPacket (laid_back data_layout vs h)
-packet_back s (dataCommand vs) h = ap dataCommand (laid_back data_layout vs h)
+packet_back s (connect_event vs) h = ap connect_event (laid_back connect_layout vs h)
+packet_back s (disconnect_event vs) h = ap disconnect_event (laid_back (layout.number ∷ []) vs h)
+packet_back s (data_packet vs) h = ap data_packet (laid_back data_layout vs h)
+packet_back s (data_command vs) h = ap data_command (laid_back data_layout vs h)
 packet_back s (at_request (num n)) h = absurd h
 packet_back s (at_request (place p n)) h = refl
 packet_back s (at_response r) h = ap at_response (response_back r)
 packet_back s (at_packet e) h = ap at_packet (event-whole kinds26 w26.table firsts_w26 e (shaped_26 s e h))
-packet_back s resendPacket h = refl
-packet_back s startPacket h = refl
+packet_back s resend_packet h = refl
+packet_back s start_packet h = refl
 
 pub frame_injective : (s t : List ℕ) → encode packet_numbers (read_frame s) ≡ encode packet_numbers (read_frame t) → read_frame s ≡ read_frame t
 frame_injective = read_injective packet_numbers packet_from PacketTyped packet_back read_frame frame-typed frame_ok frame-seven

@@ -13,12 +13,12 @@ use Rattle.text.specs.Field.{Field, field}
 use Rattle.text.specs.Utf8.{utf8, inside_character}
 use Rattle.text.proofs.Bools.{either}
 use Rattle.at.specs.Refusal.{Refusal, number_of, OrRefused, good, refused}
-use Rattle.at.specs.Event.{Kind, bits, text, ipType, btType, protocol, reason, Row, kinds_of, Value, Event, ReadEvent, event_to, up_to, listed, is_protocol, is_reason, read_field, Taken, took, and_rest, take_kind, Read, values, prepend, and_then, take_kinds, with_values, read_row}
+use Rattle.at.specs.Event.{Kind, bits, text, ip_type, bt_type, protocol, reason, Row, kinds_of, Value, Event, ReadEvent, event_to, up_to, listed, is_protocol, is_reason, read_field, Taken, took, and_rest, take_kind, Read, values, prepend, and_then, take_kinds, with_values, read_row}
 use Rattle.at.specs.Line.{before, ends_in, Radio, Body, body, ended, framed, rows_named, fields_after, or_next, by_type, by_name, read_text, read_framed, read_line}
 use Rattle.at.specs.Binary.{read_fields, marker, find_marker, announced, Data, data_at, read_data, with_data, read_marked, read_body, Tried, not_binary, tried, prefix, try_rows}
 use Rattle.at.specs.Response.{read_rest, read_response}
 use Rattle.at.specs.W26.{w26}
-use Rattle.edm.specs.Packet.{Carries, connect, disconnect, dataEvent, request, response, atEvent, resend, start, unknown, identifiers, carried}
+use Rattle.edm.specs.Packet.{Carries, connect, disconnect, data_event, request, response, at_event, resend, start, unknown, identifiers, carried}
 use Rattle.edm.specs.Payload.{byte, word, read_connect, read_disconnect, read_data_event, read_request, of_response, of_event, read_payload}
 use Rattle.edm.specs.Frame.{delimited, length_field, payload, read_frame}
 
@@ -48,8 +48,8 @@ field_ok : (i : ℕ) (k : Kind) (p : ℕ) (b : List ℕ) → Ok (read_field i k 
 unfolding read_field
 field_ok i (bits w) p b = listed_ok i (λ n. true) (number w b)
 field_ok i text p b = tt
-field_ok i ipType p b = either Ok (same b (bytes "2")) tt (either Ok (same b (bytes "3")) tt (known 13 refl refl))
-field_ok i btType p b = either Ok (same b (bytes "1")) tt (known 13 refl refl)
+field_ok i ip_type p b = either Ok (same b (bytes "2")) tt (either Ok (same b (bytes "3")) tt (known 13 refl refl))
+field_ok i bt_type p b = either Ok (same b (bytes "1")) tt (known 13 refl refl)
 field_ok i protocol p b = listed_ok i is_protocol (number 8 b)
 field_ok i reason p b = listed_ok i is_reason (number 8 b)
 
@@ -158,10 +158,10 @@ unfolding read_connect read_disconnect read_data_event read_request
 payload_ok connect p t =
     either Ok (ltb (length t) 2) (known 2 refl refl) (either Ok (eqb (byte t 1) 2) (either Ok (eqb (length t) 15) tt (known 6 refl refl)) (known 5 refl refl))
 payload_ok disconnect p t = either Ok (eqb (length t) 1) tt (known 7 refl refl)
-payload_ok dataEvent p t = either Ok (ltb (length t) 1) (known 2 refl refl) tt
+payload_ok data_event p t = either Ok (ltb (length t) 1) (known 2 refl refl) tt
 payload_ok request p t = either Ok (utf8 t) tt (known 8 refl refl)
 payload_ok response p t = handed_on of_response (λ r. tt) (λ n. refl) (read_response p t) (response_ok p t)
-payload_ok atEvent p t = of_event_ok (read_line w26 p t) (line_ok w26 p t)
+payload_ok at_event p t = of_event_ok (read_line w26 p t) (line_ok w26 p t)
 payload_ok resend p t = tt
 payload_ok start p t = tt
 payload_ok unknown p t = known 4 refl refl

@@ -10,7 +10,7 @@ use borrow.Author.Tests.{lt-ltb, le-ltb, eq-eqb}
 use lib.ListN.{length, drop, get_or, length-append, length-drop}
 use lib.Seq.{drop-drop, get_or-drop}
 use Rattle.at.specs.Refusal.{good}
-use Rattle.at.specs.Event.{Kind, bits, text, ipType, btType, protocol, reason, Row, kinds_of, Value, num, place, Event, event, event_to}
+use Rattle.at.specs.Event.{Kind, bits, text, ip_type, bt_type, protocol, reason, Row, kinds_of, Value, num, place, Event, event, event_to}
 use Rattle.at.specs.Line.{read_line}
 use Rattle.at.specs.Walk.{one, step_at}
 use Rattle.at.specs.Typed.{holds, OfKind, OfKinds, OfKindsThenData, TextOf, BinaryOf}
@@ -84,10 +84,10 @@ module _ (s : List ℕ) where
   kind-holds (bits w) (place p n) h = absurd h
   kind-holds text (num n) h = absurd h
   kind-holds text (place p n) h = a_place
-  kind-holds ipType (num n) h = a_number refl h
-  kind-holds ipType (place p n) h = absurd h
-  kind-holds btType (num n) h = a_number refl h
-  kind-holds btType (place p n) h = absurd h
+  kind-holds ip_type (num n) h = a_number refl h
+  kind-holds ip_type (place p n) h = absurd h
+  kind-holds bt_type (num n) h = a_number refl h
+  kind-holds bt_type (place p n) h = absurd h
   kind-holds protocol (num n) h = a_number refl h
   kind-holds protocol (place p n) h = absurd h
   kind-holds reason (num n) h = a_number refl h

@@ -2,13 +2,13 @@
 -- case, the fields. Its texts and data are places in a source, and what stands after its fields is not looked at.
 use Rattle.std.specs.Prelude.{ℕ, suc, ◌+◌, List, [], ◌∷◌, ◌++◌, Bool, true, cond, ◌&&◌, eqb, ltb, length, get_or}
 use Rattle.at.specs.Refusal.{OrRefused, good, refused, no}
-use Rattle.at.specs.Event.{Kind, bits, text, ipType, btType, protocol, reason, Row, kinds_of, Value, num, place, Event, event}
+use Rattle.at.specs.Event.{Kind, bits, text, ip_type, bt_type, protocol, reason, Row, kinds_of, Value, num, place, Event, event}
 use Rattle.at.specs.Parts.{row_no}
 use Rattle.at.specs.Typed.{holds}
 use Rattle.at.specs.W26 as w26
 use Rattle.at.specs.W36 as w36
 use Rattle.writer.specs.Write.{to_write}
-use Rattle.edm.specs.Packet.{Carries, connect, disconnect, dataEvent, request, response, atEvent, resend, start, unknown, identifiers, carried}
+use Rattle.edm.specs.Packet.{Carries, connect, disconnect, data_event, request, response, at_event, resend, start, unknown, identifiers, carried}
 use Rattle.edm.specs.Command as command
 use Rattle.at.specs.declared.Text.{Text}
 use Rattle.edm.specs.declared.EdmPacket.{EdmPacket}
@@ -21,16 +21,16 @@ number row k = get_or row k 0
 abbrev pub width : Kind → ℕ
 width (bits w) = 1
 width text = 2
-width ipType = 1
-width btType = 1
+width ip_type = 1
+width bt_type = 1
 width protocol = 1
 width reason = 1
 
 abbrev pub value_at : Kind → List ℕ → ℕ → Value
 value_at (bits w) row k = num (number row k)
 value_at text row k = place (number row k) (number row (suc k))
-value_at ipType row k = num (number row k)
-value_at btType row k = num (number row k)
+value_at ip_type row k = num (number row k)
+value_at bt_type row k = num (number row k)
 value_at protocol row k = num (number row k)
 value_at reason row k = num (number row k)
 
@@ -81,10 +81,10 @@ text_at row k = record { start = number row k; len = number row (suc k) }
 abbrev pub other_packet : Carries → OrRefused EdmPacket
 other_packet connect = good is.StartEvent
 other_packet disconnect = good is.StartEvent
-other_packet dataEvent = good is.StartEvent
+other_packet data_event = good is.StartEvent
 other_packet request = good is.StartEvent
 other_packet response = good is.StartEvent
-other_packet atEvent = good is.StartEvent
+other_packet at_event = good is.StartEvent
 other_packet resend = good is.StartEvent
 other_packet start = good is.StartEvent
 other_packet unknown = refused (no 253)

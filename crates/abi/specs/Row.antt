@@ -8,7 +8,7 @@ use Rattle.at.specs.Response.{Response, ok, error, other}
 use Rattle.at.specs.Walk.{Step, one, end, refused_at}
 use Rattle.at.specs.W26 as w26
 use Rattle.at.specs.W36 as w36
-use Rattle.edm.specs.Packet.{Packet, connectEvent, disconnectEvent, dataPacket, dataCommand, at_request, at_response, at_packet, resendPacket, startPacket}
+use Rattle.edm.specs.Packet.{Packet, connect_event, disconnect_event, data_packet, data_command, at_request, at_response, at_packet, resend_packet, start_packet}
 use Rattle.abi.specs.Code.{field_no, reason_no}
 
 -- a number is itself; a text, data or an address is its place and its length
@@ -36,15 +36,15 @@ response_numbers (other p n) = 2 ∷ p ∷ n ∷ []
 
 -- a packet: the identifier of its kind, and its contents. A frame ends with its packet, so no place past it is reported
 abbrev pub packet_numbers : Packet → List ℕ
-packet_numbers (connectEvent vs) = 0x11 ∷ values_numbers vs
-packet_numbers (disconnectEvent vs) = 0x21 ∷ values_numbers vs
-packet_numbers (dataPacket vs) = 0x31 ∷ values_numbers vs
-packet_numbers (dataCommand vs) = 0x36 ∷ values_numbers vs
+packet_numbers (connect_event vs) = 0x11 ∷ values_numbers vs
+packet_numbers (disconnect_event vs) = 0x21 ∷ values_numbers vs
+packet_numbers (data_packet vs) = 0x31 ∷ values_numbers vs
+packet_numbers (data_command vs) = 0x36 ∷ values_numbers vs
 packet_numbers (at_request v) = 0x44 ∷ value_numbers v
 packet_numbers (at_response r) = 0x45 ∷ response_numbers r
 packet_numbers (at_packet e) = 0x41 ∷ event_numbers w26.table e
-packet_numbers resendPacket = 0x56 ∷ []
-packet_numbers startPacket = 0x71 ∷ []
+packet_numbers resend_packet = 0x56 ∷ []
+packet_numbers start_packet = 0x71 ∷ []
 
 -- a refusal: its number, the field and the reason
 abbrev pub refusal_numbers : Refusal → List ℕ

@@ -19,7 +19,7 @@ use Rattle.text.proofs.BytesLaws.{starts_length}
 use Rattle.text.proofs.Utf8Joined.{utf8_nil}
 use Rattle.text.proofs.Bools.{either}
 use Rattle.at.specs.Refusal.{no, number_of, OrRefused, good, refused}
-use Rattle.at.specs.Event.{Kind, bits, text, ipType, btType, protocol, reason, Row, kinds_of, Value, num, place, Event, event, ReadEvent, event_to, up_to, listed, is_protocol, is_reason, read_field, Taken, took, and_rest, take_kind, Read, values, prepend, and_then, take_kinds, with_values, read_row}
+use Rattle.at.specs.Event.{Kind, bits, text, ip_type, bt_type, protocol, reason, Row, kinds_of, Value, num, place, Event, event, ReadEvent, event_to, up_to, listed, is_protocol, is_reason, read_field, Taken, took, and_rest, take_kind, Read, values, prepend, and_then, take_kinds, with_values, read_row}
 use Rattle.at.specs.Line.{before, ends_in, Radio, Body, body, framed, rows_named, fields_after, or_next, by_type, by_name, read_text, read_framed, read_line}
 use Rattle.at.specs.Binary.{fields_up_to, read_fields, find_marker, announced, Data, data_at, read_data, with_data, read_marked, read_body, Tried, not_binary, tried, prefix, try_rows}
 use Rattle.at.specs.Response.{by_last, read_rest, read_response, read_body as read_response_body}
@@ -114,18 +114,18 @@ module _ (n : ℕ) where
 
   -- The values of fields: a number, or the place and the length of its field
 
-  listed-inside : (i : ℕ) (inList : ℕ → Bool) (x : Num) → IfGood (Inside n) (listed i inList x)
-  listed-inside i inList (some x) = either (IfGood (Inside n)) (inList x) tt tt
-  listed-inside i inList (none why) = tt
+  listed-inside : (i : ℕ) (in_list : ℕ → Bool) (x : Num) → IfGood (Inside n) (listed i in_list x)
+  listed-inside i in_list (some x) = either (IfGood (Inside n)) (in_list x) tt tt
+  listed-inside i in_list (none why) = tt
 
   pub field-inside : (i : ℕ) (k : Kind) (p : ℕ) (b : List ℕ) → p + length b ≤ n → IfGood (Inside n) (read_field i k p b)
   unfolding read_field
   field-inside i (bits w) p b h = listed-inside i (λ x. true) (number w b)
   field-inside i text p b h = h
-  field-inside i ipType p b h =
+  field-inside i ip_type p b h =
       let three : OrRefused Value = cond (same b (bytes "3")) (good (num 3)) (refused (no 13)) in
       either (IfGood (Inside n)) (same b (bytes "2")) tt (either (IfGood (Inside n)) (same b (bytes "3")) tt tt)
-  field-inside i btType p b h = either (IfGood (Inside n)) (same b (bytes "1")) tt tt
+  field-inside i bt_type p b h = either (IfGood (Inside n)) (same b (bytes "1")) tt tt
   field-inside i protocol p b h = listed-inside i is_protocol (number 8 b)
   field-inside i reason p b h = listed-inside i is_reason (number 8 b)
 

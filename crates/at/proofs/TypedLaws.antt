@@ -23,7 +23,7 @@ use Rattle.text.proofs.NumberLaws.{number_fits}
 use Rattle.text.proofs.Utf8Places.{inside_law}
 use Rattle.at.specs.Refusal.{invalid, OrRefused, good, refused}
 use Rattle.at.specs.declared.FieldError.TheVariants.{NotListed}
-use Rattle.at.specs.Event.{Kind, bits, text, ipType, btType, protocol, reason, Row, name_of, kinds_of, Value, num, place, Event, ReadEvent, event_to, up_to, listed, is_protocol, is_reason, read_field, Taken, took, and_rest, take_kind, Read, values, prepend, and_then, take_kinds, with_values, read_row}
+use Rattle.at.specs.Event.{Kind, bits, text, ip_type, bt_type, protocol, reason, Row, name_of, kinds_of, Value, num, place, Event, ReadEvent, event_to, up_to, listed, is_protocol, is_reason, read_field, Taken, took, and_rest, take_kind, Read, values, prepend, and_then, take_kinds, with_values, read_row}
 use Rattle.at.specs.Line.{before, ends_in, Radio, Body, body, ended, framed, rows_named, fields_after, by_name, read_text, read_framed, read_line}
 use Rattle.at.specs.Binary.{fields_up_to, read_fields, marker, find_marker, Data, data_at, read_data, with_data, read_marked, read_body, Tried, not_binary, tried, prefix, try_rows}
 use Rattle.at.specs.Response.{by_last, read_rest, read_response, read_body as read_response_body}
@@ -67,11 +67,11 @@ BodyHeld s (body p t) = Held s p t
 module _ (s : List ℕ) where
   -- The values of fields
 
-  listed-typed : (k : Kind) (i : ℕ) (inList : ℕ → Bool) (m : Num) → ((x : ℕ) → m ≡ some x → inList x ≡ true → OfKind s k (num x)) → IfGood (OfKind s k) (listed i inList m)
-  listed-typed k i inList (none why) f = tt
-  listed-typed k i inList (some x) f = go (inList x) refl
+  listed-typed : (k : Kind) (i : ℕ) (in_list : ℕ → Bool) (m : Num) → ((x : ℕ) → m ≡ some x → in_list x ≡ true → OfKind s k (num x)) → IfGood (OfKind s k) (listed i in_list m)
+  listed-typed k i in_list (none why) f = tt
+  listed-typed k i in_list (some x) f = go (in_list x) refl
     where
-      go : (t : Bool) → inList x ≡ t → IfGood (OfKind s k) (cond t (good (num x)) (refused (invalid i NotListed)))
+      go : (t : Bool) → in_list x ≡ t → IfGood (OfKind s k) (cond t (good (num x)) (refused (invalid i NotListed)))
       go true e = f x refl e
       go false e = tt
 
@@ -79,9 +79,9 @@ module _ (s : List ℕ) where
   unfolding read_field
   field-typed i (bits w) p b h = listed-typed (bits w) i (λ x. true) (number w b) (λ x e t. lt-ltb x (2 ^ w) (number_fits w x b e))
   field-typed i text p b h = text_at_lem s p (length b) b refl h
-  field-typed i ipType p b h =
-      either (IfGood (OfKind s ipType)) (same b (bytes "2")) refl (either (IfGood (OfKind s ipType)) (same b (bytes "3")) refl tt)
-  field-typed i btType p b h = either (IfGood (OfKind s btType)) (same b (bytes "1")) refl tt
+  field-typed i ip_type p b h =
+      either (IfGood (OfKind s ip_type)) (same b (bytes "2")) refl (either (IfGood (OfKind s ip_type)) (same b (bytes "3")) refl tt)
+  field-typed i bt_type p b h = either (IfGood (OfKind s bt_type)) (same b (bytes "1")) refl tt
   field-typed i protocol p b h = listed-typed protocol i is_protocol (number 8 b) (λ x e t. t)
   field-typed i reason p b h = listed-typed reason i is_reason (number 8 b) (λ x e t. t)
 

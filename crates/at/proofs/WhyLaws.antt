@@ -15,7 +15,7 @@ use Rattle.text.specs.Field.{Field, field}
 use Rattle.text.proofs.BytesLaws.{same_equal}
 use Rattle.text.proofs.Bools.{either, by_test}
 use Rattle.at.specs.Refusal.{Refusal, no, missing, invalid, number_of, OrRefused, good, refused}
-use Rattle.at.specs.Event.{Kind, bits, text, ipType, btType, protocol, reason, is_protocol, is_reason, Row, name_of, kinds_of, Value, Event, ReadEvent, event_to, up_to, listed, read_field, and_rest, take_kind, Read, values, prepend, and_then, take_kinds, with_values, read_row}
+use Rattle.at.specs.Event.{Kind, bits, text, ip_type, bt_type, protocol, reason, is_protocol, is_reason, Row, name_of, kinds_of, Value, Event, ReadEvent, event_to, up_to, listed, read_field, and_rest, take_kind, Read, values, prepend, and_then, take_kinds, with_values, read_row}
 use Rattle.at.specs.Line.{Radio, before, ends_in, Body, body, ended, framed, rows_named, fields_after, or_next, by_type, by_name, read_text, read_framed, read_line}
 use Rattle.at.specs.Parts.{row_no}
 use Rattle.at.specs.Binary.{fields_up_to, read_fields, marker, find_marker, announced, Data, data_at, read_data, with_data, read_marked, read_body, Tried, not_binary, tried, prefix, try_rows}
@@ -47,28 +47,28 @@ bits-says i w b = go (number w b) refl
     go (none why) e = (refl, e)
 
 -- a kind with a list
-module _ (i : ℕ) (k : Kind) (b : List ℕ) (inList : ℕ → Bool) (form : InList inList b → OfForm k b)
-    (wrong : (why : _) → NotInList inList b why → WrongForm k b why)
+module _ (i : ℕ) (k : Kind) (b : List ℕ) (in_list : ℕ → Bool) (form : InList in_list b → OfForm k b)
+    (wrong : (why : _) → NotInList in_list b why → WrongForm k b why)
   where
-    listed-says : FieldSays i k b (listed i inList (number 8 b))
+    listed-says : FieldSays i k b (listed i in_list (number 8 b))
     listed-says = go (number 8 b) refl
       where
-        in_list : (n : ℕ) → number 8 b ≡ some n → (t : Bool) → inList n ≡ t → FieldSays i k b (listed i inList (some n))
-        in_list n e true q = rw q (form (n, e, q))
-        in_list n e false q = rw q (refl, wrong NotListed (n, e, q))
+        in_list_lem : (n : ℕ) → number 8 b ≡ some n → (t : Bool) → in_list n ≡ t → FieldSays i k b (listed i in_list (some n))
+        in_list_lem n e true q = rw q (form (n, e, q))
+        in_list_lem n e false q = rw q (refl, wrong NotListed (n, e, q))
 
-        go : (x : Num) → number 8 b ≡ x → FieldSays i k b (listed i inList x)
-        go (some n) e = in_list n e (inList n) refl
+        go : (x : Num) → number 8 b ≡ x → FieldSays i k b (listed i in_list x)
+        go (some n) e = in_list_lem n e (in_list n) refl
         go (none why) e = (refl, wrong (NoNumber why) e)
 
 field-says : (i : ℕ) (k : Kind) (p : ℕ) (b : List ℕ) → FieldSays i k b (read_field i k p b)
 unfolding read_field
 field-says i (bits w) p b = bits-says i w b
 field-says i text p b = tt
-field-says i ipType p b =
-    by_test (FieldSays i ipType b) (same b (bytes "2")) (λ q. inl (same_equal b (bytes "2") q))
-    (λ q. by_test (FieldSays i ipType b) (same b (bytes "3")) (λ r. inr (same_equal b (bytes "3") r)) (λ r. tt))
-field-says i btType p b = by_test (FieldSays i btType b) (same b (bytes "1")) (λ q. same_equal b (bytes "1") q) (λ q. tt)
+field-says i ip_type p b =
+    by_test (FieldSays i ip_type b) (same b (bytes "2")) (λ q. inl (same_equal b (bytes "2") q))
+    (λ q. by_test (FieldSays i ip_type b) (same b (bytes "3")) (λ r. inr (same_equal b (bytes "3") r)) (λ r. tt))
+field-says i bt_type p b = by_test (FieldSays i bt_type b) (same b (bytes "1")) (λ q. same_equal b (bytes "1") q) (λ q. tt)
 field-says i protocol p b = listed-says i protocol b is_protocol (λ h. h) (λ why h. h)
 field-says i reason p b = listed-says i reason b is_reason (λ h. h) (λ why h. h)
 

@@ -3,7 +3,7 @@ use Rattle.std.specs.Prelude.{ℕ, zero, suc, ◌+◌, ◌*◌, ◌%◌, ◌^◌
 use Prim.Native.Char.{code}
 use Rattle.at.specs.Refusal.{no, invalid, OrRefused, good, refused, refusal_of, refusal_no}
 use Rattle.text.specs.Field.{Field as Part}
-use Rattle.at.specs.Event.{Kind, bits, text, ipType, btType, protocol, reason, Row, kinds_of as row_kinds, Value, num, place, at, Event, event, Read, values, read_row}
+use Rattle.at.specs.Event.{Kind, bits, text, ip_type, bt_type, protocol, reason, Row, kinds_of as row_kinds, Value, num, place, at, Event, event, Read, values, read_row}
 use Rattle.at.specs.Line.{Body, body, rows_named, by_type}
 use Rattle.at.specs.Table.{letters_of}
 use Rattle.at.specs.TableSteps.{Tabled}
@@ -47,8 +47,8 @@ no_field = record { value = 0; len = 0 }
 abbrev pub value_of : Kind → Field → Value
 value_of (bits w) f = num (f.value % 2 ^ w)
 value_of text f = place f.value f.len
-value_of ipType f = num (w26.type_no (eqb f.value 3))
-value_of btType f = num 1
+value_of ip_type f = num (w26.type_no (eqb f.value 3))
+value_of bt_type f = num 1
 value_of protocol f = num (w26.profile_no (profile_of f.value))
 value_of reason f = num (w26.reason_no (reason_of f.value))
 
@@ -111,8 +111,8 @@ kind_of c =
     cond (eqb c (code "b")) (bits 8)
     (cond (eqb c (code "w")) (bits 16)
     (cond (eqb c (code "l")) (bits 32)
-    (cond (eqb c (code "i")) ipType
-    (cond (eqb c (code "t")) btType (cond (eqb c (code "p")) protocol (cond (eqb c (code "r")) reason text))))))
+    (cond (eqb c (code "i")) ip_type
+    (cond (eqb c (code "t")) bt_type (cond (eqb c (code "p")) protocol (cond (eqb c (code "r")) reason text))))))
 
 abbrev pub kinds_in : List ℕ → List Kind
 kinds_in cs = map kind_of cs

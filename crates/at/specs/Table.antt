@@ -3,14 +3,14 @@
 use Rattle.std.specs.Prelude.{ℕ, ◌+◌, ◌*◌, List, [], ◌∷◌, ◌++◌, map, cond, eqb, length, take, get_or}
 use Prim.Native.Char.{code}
 use Rattle.text.specs.Bytes.{bytes, part}
-use Rattle.at.specs.Event.{Kind, bits, text, ipType, btType, protocol, reason, Row, name_of, kinds_of}
+use Rattle.at.specs.Event.{Kind, bits, text, ip_type, bt_type, protocol, reason, Row, name_of, kinds_of}
 
 -- the letter of a kind
 abbrev pub letter_of : Kind → ℕ
 letter_of (bits w) = cond (eqb w 8) (code "b") (cond (eqb w 16) (code "w") (code "l"))
 letter_of text = code "s"
-letter_of ipType = code "i"
-letter_of btType = code "t"
+letter_of ip_type = code "i"
+letter_of bt_type = code "t"
 letter_of protocol = code "p"
 letter_of reason = code "r"
 

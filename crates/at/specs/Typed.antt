@@ -5,7 +5,7 @@ use Rattle.std.specs.Prelude.{ℕ, ◌^◌, ◌≡◌, List, [], ◌∷◌, ◌�
 use Rattle.text.specs.Bytes.{part}
 use Rattle.text.specs.Utf8.{utf8}
 use Rattle.at.specs.Refusal.{OrRefused, good}
-use Rattle.at.specs.Event.{Kind, bits, text, ipType, btType, protocol, reason, is_protocol, is_reason, Row, kinds_of, Value, num, place, Event, event, ReadEvent, event_to}
+use Rattle.at.specs.Event.{Kind, bits, text, ip_type, bt_type, protocol, reason, is_protocol, is_reason, Row, kinds_of, Value, num, place, Event, event, ReadEvent, event_to}
 use Rattle.at.specs.Parts.{row_no}
 use Rattle.at.specs.Binary.{Tried, not_binary, tried}
 use Rattle.at.specs.Response.{Response, ok, other, error}
@@ -21,8 +21,8 @@ TextAt s p n = utf8 (part s p n) ≡ true
 abbrev pub holds : Kind → ℕ → Bool
 holds (bits w) n = ltb n (2 ^ w)
 holds text n = true
-holds ipType n = eqb n 2 || eqb n 3
-holds btType n = eqb n 1
+holds ip_type n = eqb n 2 || eqb n 3
+holds bt_type n = eqb n 1
 holds protocol n = is_protocol n
 holds reason n = is_reason n
 
@@ -32,10 +32,10 @@ OfKind s text (place p n) = TextAt s p n
 OfKind s text (num x) = ⊥
 OfKind s (bits w) (num x) = holds (bits w) x ≡ true
 OfKind s (bits w) (place p n) = ⊥
-OfKind s ipType (num x) = holds ipType x ≡ true
-OfKind s ipType (place p n) = ⊥
-OfKind s btType (num x) = holds btType x ≡ true
-OfKind s btType (place p n) = ⊥
+OfKind s ip_type (num x) = holds ip_type x ≡ true
+OfKind s ip_type (place p n) = ⊥
+OfKind s bt_type (num x) = holds bt_type x ≡ true
+OfKind s bt_type (place p n) = ⊥
 OfKind s protocol (num x) = holds protocol x ≡ true
 OfKind s protocol (place p n) = ⊥
 OfKind s reason (num x) = holds reason x ≡ true

@@ -5,7 +5,7 @@ use Rattle.text.specs.Bytes.{bytes, starts_with}
 use Rattle.text.specs.Number.{some, none, number}
 use Rattle.text.specs.Field.{Field, field}
 use Rattle.at.specs.Refusal.{Refusal, no, missing, invalid, OrRefused, good, refused}
-use Rattle.at.specs.Event.{Kind, bits, text, ipType, btType, protocol, reason, is_protocol, is_reason, Row, name_of, kinds_of, ReadEvent}
+use Rattle.at.specs.Event.{Kind, bits, text, ip_type, bt_type, protocol, reason, is_protocol, is_reason, Row, name_of, kinds_of, ReadEvent}
 use Rattle.at.specs.Line.{Radio, before, body, framed, fields_after}
 use Rattle.at.specs.Parts.{row_no}
 use Rattle.at.specs.Binary.{fields_up_to, find_marker, Tried, not_binary, tried, prefix}
@@ -16,18 +16,18 @@ use Rattle.at.specs.declared.FieldError.TheVariants.{NoNumber, NotListed}
 
 -- a number of 8 bits that is in a list; and one that is not, or no number, with what the number reader says of exactly these bytes
 abbrev pub InList : (ℕ → Bool) → List ℕ → Type 0
-InList inList b = (n : ℕ) × (number 8 b ≡ some n) × (inList n ≡ true)
+InList in_list b = (n : ℕ) × (number 8 b ≡ some n) × (in_list n ≡ true)
 
 abbrev pub NotInList : (ℕ → Bool) → List ℕ → FieldError → Type 0
-NotInList inList b (NoNumber why) = number 8 b ≡ none why
-NotInList inList b NotListed = (n : ℕ) × (number 8 b ≡ some n) × (inList n ≡ false)
+NotInList in_list b (NoNumber why) = number 8 b ≡ none why
+NotInList in_list b NotListed = (n : ℕ) × (number 8 b ≡ some n) × (in_list n ≡ false)
 
 -- a field that is of its kind's form
 abbrev pub OfForm : Kind → List ℕ → Type 0
 OfForm (bits w) b = (n : ℕ) × (number w b ≡ some n)
 OfForm text b = Unit {0}
-OfForm ipType b = (b ≡ bytes "2") ⊎ (b ≡ bytes "3")
-OfForm btType b = b ≡ bytes "1"
+OfForm ip_type b = (b ≡ bytes "2") ⊎ (b ≡ bytes "3")
+OfForm bt_type b = b ≡ bytes "1"
 OfForm protocol b = InList is_protocol b
 OfForm reason b = InList is_reason b
 
@@ -36,8 +36,8 @@ abbrev pub WrongForm : Kind → List ℕ → FieldError → Type 0
 WrongForm (bits w) b (NoNumber why) = number w b ≡ none why
 WrongForm (bits w) b NotListed = ⊥
 WrongForm text b why = ⊥
-WrongForm ipType b why = ⊥
-WrongForm btType b why = ⊥
+WrongForm ip_type b why = ⊥
+WrongForm bt_type b why = ⊥
 WrongForm protocol b why = NotInList is_protocol b why
 WrongForm reason b why = NotInList is_reason b why
 

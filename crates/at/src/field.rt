@@ -3,7 +3,7 @@
 // text.
 ghost use Rattle.std.specs.Prelude.{◌≡◌, ℕ, ◌+◌, ◌<◌, length};
 ghost use Rattle.text.specs.FieldSteps.{left};
-ghost use Rattle.at.specs.Event.{read_field, take_kinds, bits, ipType, btType, protocol, reason};
+ghost use Rattle.at.specs.Event.{read_field, take_kinds, bits, ip_type, bt_type, protocol, reason};
 ghost use Rattle.at.specs.Steps.{kind_of, kinds_of, Held, field_in, fields_in, one_of, Took};
 
 use crate::table::Kinds;
@@ -63,7 +63,7 @@ fn long_field(field: &[u8]) -> FieldAnswer
 
 // The type of an IP peer: exactly `2` or `3`.
 fn ip_type_field(field: &[u8]) -> FieldAnswer
-    ensures { (i p : ℕ) → one_of i ipType result ≡ read_field i ipType p field.now }
+    ensures { (i p : ℕ) → one_of i ip_type result ≡ read_field i ip_type p field.now }
 {
     if same(field, b"2") {
         return number(2);
@@ -76,7 +76,7 @@ fn ip_type_field(field: &[u8]) -> FieldAnswer
 
 // The type of a Bluetooth peer: exactly `1`.
 fn bt_type_field(field: &[u8]) -> FieldAnswer
-    ensures { (i p : ℕ) → one_of i btType result ≡ read_field i btType p field.now }
+    ensures { (i p : ℕ) → one_of i bt_type result ≡ read_field i bt_type p field.now }
 {
     if same(field, b"1") {
         return number(1);

@@ -5,7 +5,7 @@ use mathlib.Core.Bool.{Bool, cond}
 use borrow.Author.Tests.{eq-eqb}
 use Rattle.channels.specs.declared.cell.Row.{Row}
 use Rattle.channels.specs.declared.cell.Cell.{Cell}
-use Rattle.channels.specs.Machine.{connects, disconnects, hasData, is_refused, other, closed, is_closed, reopened_more, reclosed_more, stray_more, refused_more}
+use Rattle.channels.specs.Machine.{connects, disconnects, has_data, is_refused, other, closed, is_closed, reopened_more, reclosed_more, stray_more, refused_more}
 use Rattle.channels.specs.Steps.{next_cell}
 
 module _ (x : Cell) (c : ℕ) (b : Bool) (e : is_closed x.row ≡ b) where
@@ -17,7 +17,7 @@ module _ (x : Cell) (c : ℕ) (b : Bool) (e : is_closed x.row ≡ b) where
   unfolding next_cell
   disconnected = rw (eq-eqb c c refl, e)
 
-  pub had_data : next_cell x (hasData c) ≡ record { row = x.row; counts = cond b (stray_more x.counts) x.counts }
+  pub had_data : next_cell x (has_data c) ≡ record { row = x.row; counts = cond b (stray_more x.counts) x.counts }
   unfolding next_cell
   had_data = rw e
 

@@ -11,7 +11,7 @@ use borrow.Author.Tests.{eqb-true, eqb-false}
 use Rattle.channels.specs.declared.cell.Row.{Row}
 use Rattle.channels.specs.declared.cell.Cell.{Cell}
 use Rattle.channels.specs.declared.cell.Counts.{Counts}
-use Rattle.channels.specs.Machine.{Arrival, connects, disconnects, hasData, other, is_refused, Machine, closed, put, stepped}
+use Rattle.channels.specs.Machine.{Arrival, connects, disconnects, has_data, other, is_refused, Machine, closed, put, stepped}
 use Rattle.channels.specs.View.{row_in, machine_of}
 use Rattle.channels.specs.Steps.{channel_of, cell_at, next_cell, Whole}
 use Rattle.channels.proofs.MachineLaws.{put_there}
@@ -37,7 +37,7 @@ step-one : (m : Machine) (a : Arrival) → put_cell m (channel_of a) (next_cell 
 unfolding next_cell
 step-one m (connects c row) = rw (put_there (λ d. m.rows c) c row)
 step-one m (disconnects c) = rw (put_there (λ d. m.rows c) c closed)
-step-one m (hasData c) = λ i. record { rows = λ d. put_same m.rows c d i; counts = (stepped m (hasData c)).counts }
+step-one m (has_data c) = λ i. record { rows = λ d. put_same m.rows c d i; counts = (stepped m (has_data c)).counts }
 step-one m other = λ i. record { rows = λ d. put_same m.rows 0 d i; counts = m.counts }
 step-one m is_refused = λ i. record { rows = λ d. put_same m.rows 0 d i; counts = (stepped m is_refused).counts }
 

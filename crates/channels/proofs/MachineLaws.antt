@@ -9,7 +9,7 @@ use borrow.Author.Tests.{eq-eqb, ne_eqb, ltb-true}
 use Rattle.edm.specs.Frame.{read_frame}
 use Rattle.channels.specs.declared.cell.Row.{Row}
 use Rattle.channels.specs.declared.cell.Counts.{Counts}
-use Rattle.channels.specs.Machine.{Arrival, connects, disconnects, hasData, other, is_refused, Machine, brings, up, put, is_closed, reopened_more, reclosed_more, stray_more, stepped, step, run}
+use Rattle.channels.specs.Machine.{Arrival, connects, disconnects, has_data, other, is_refused, Machine, brings, up, put, is_closed, reopened_more, reclosed_more, stray_more, stepped, step, run}
 
 -- what is put at a channel is there, and no other row changes
 pub put_there : (rows : ℕ → Row) (c : ℕ) (row : Row) → put rows c row c ≡ row
@@ -52,7 +52,7 @@ either false n x y p q = q
 stepped_grows : (m : Machine) (a : Arrival) → AllGrow m.counts (stepped m a).counts
 stepped_grows m (connects c row) = either (is_closed (m.rows c)) m.counts m.counts (reopened_more m.counts) (all_stay m.counts) (record { reopened = counts_up m.counts.reopened; reclosed = stays m.counts.reclosed; stray = stays m.counts.stray; refused = stays m.counts.refused })
 stepped_grows m (disconnects c) = either (is_closed (m.rows c)) m.counts (reclosed_more m.counts) m.counts (record { reopened = stays m.counts.reopened; reclosed = counts_up m.counts.reclosed; stray = stays m.counts.stray; refused = stays m.counts.refused }) (all_stay m.counts)
-stepped_grows m (hasData c) = either (is_closed (m.rows c)) m.counts (stray_more m.counts) m.counts (record { reopened = stays m.counts.reopened; reclosed = stays m.counts.reclosed; stray = counts_up m.counts.stray; refused = stays m.counts.refused }) (all_stay m.counts)
+stepped_grows m (has_data c) = either (is_closed (m.rows c)) m.counts (stray_more m.counts) m.counts (record { reopened = stays m.counts.reopened; reclosed = stays m.counts.reclosed; stray = counts_up m.counts.stray; refused = stays m.counts.refused }) (all_stay m.counts)
 stepped_grows m other = all_stay m.counts
 stepped_grows m is_refused = record { reopened = stays m.counts.reopened; reclosed = stays m.counts.reclosed; stray = stays m.counts.stray; refused = counts_up m.counts.refused }
 

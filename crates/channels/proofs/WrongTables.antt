@@ -14,7 +14,7 @@ use borrow.Fn.Kinds.{Dens, ended_of}
 use Rattle.edm.specs.Frame.{read_frame}
 use Rattle.channels.specs.declared.Channels.{Channels}
 use Rattle.channels.specs.declared.cell.Row.{Row}
-use Rattle.channels.specs.Machine.{Arrival, connects, disconnects, hasData, other, is_refused, Machine, brings, closed, is_closed, reopened_more, reclosed_more, stray_more, refused_more, stepped, step}
+use Rattle.channels.specs.Machine.{Arrival, connects, disconnects, has_data, other, is_refused, Machine, brings, closed, is_closed, reopened_more, reclosed_more, stray_more, refused_more, stepped, step}
 use Rattle.channels.specs.View.{view, counts_of}
 use Rattle.channels.proofs.Facts.{entails}
 use Rattle.channels.proofs.MachineLaws.{put_there, put_elsewhere}
@@ -69,11 +69,11 @@ module _ {M : Type 1} {𝓤 : Ura M} (𝓛 : Logic 𝓤) (mem : Memory → SProp
   pub closed_again_counted : (c : ℕ) → Arrives (disconnects c) → is_closed (earlier.rows c) ≡ true → Says (later.counts ≡ reclosed_more earlier.counts)
   closed_again_counted c e h = entails 𝓤 (leaves (disconnects c) e) (λ s. ap (λ (m : Machine). m.counts) s ∙ rw h)
 
-  pub stray_counted : (c : ℕ) → Arrives (hasData c) → is_closed (earlier.rows c) ≡ true → Says (later ≡ record { rows = earlier.rows; counts = stray_more earlier.counts })
-  stray_counted c e h = entails 𝓤 (leaves (hasData c) e) (λ s. s ∙ rw h)
+  pub stray_counted : (c : ℕ) → Arrives (has_data c) → is_closed (earlier.rows c) ≡ true → Says (later ≡ record { rows = earlier.rows; counts = stray_more earlier.counts })
+  stray_counted c e h = entails 𝓤 (leaves (has_data c) e) (λ s. s ∙ rw h)
 
-  pub data_on_open_changes_nothing : (c : ℕ) → Arrives (hasData c) → is_closed (earlier.rows c) ≡ false → Says (later ≡ earlier)
-  data_on_open_changes_nothing c e h = entails 𝓤 (leaves (hasData c) e) (λ s. s ∙ rw h)
+  pub data_on_open_changes_nothing : (c : ℕ) → Arrives (has_data c) → is_closed (earlier.rows c) ≡ false → Says (later ≡ earlier)
+  data_on_open_changes_nothing c e h = entails 𝓤 (leaves (has_data c) e) (λ s. s ∙ rw h)
 
   pub other_changes_nothing : Arrives other → Says (later ≡ earlier)
   other_changes_nothing e = leaves other e

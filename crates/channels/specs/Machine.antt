@@ -3,7 +3,7 @@ use Rattle.std.specs.Prelude.{ℕ, ◌+◌, ◌*◌, List, [], ◌∷◌, Bool, 
 use Rattle.text.specs.Bytes.{part}
 use Rattle.at.specs.Refusal.{OrRefused, good, refused}
 use Rattle.at.specs.Event.{Value, num, place}
-use Rattle.edm.specs.Packet.{Packet, connectEvent, disconnectEvent, dataPacket, dataCommand, at_request, at_response, at_packet, resendPacket, startPacket}
+use Rattle.edm.specs.Packet.{Packet, connect_event, disconnect_event, data_packet, data_command, at_request, at_response, at_packet, resend_packet, start_packet}
 use Rattle.edm.specs.Frame.{read_frame}
 use Rattle.channels.specs.declared.cell.Row.{Row}
 use Rattle.channels.specs.declared.cell.Counts.{Counts}
@@ -49,7 +49,7 @@ fresh = record { rows = λ c. closed; counts = record { reopened = 0; reclosed =
 -- what a frame says about a channel
 pub data Arrival : Type 0 where
   connects : ℕ → Row → Arrival
-  disconnects hasData : ℕ → Arrival
+  disconnects has_data : ℕ → Arrival
   other is_refused : Arrival
 
 -- the rows, but at the channel c this one
@@ -61,7 +61,7 @@ put rows c row d = cond (eqb d c) row (rows d)
 abbrev pub stepped : Machine → Arrival → Machine
 stepped m (connects c row) = record { rows = put m.rows c row; counts = cond (is_closed (m.rows c)) m.counts (reopened_more m.counts) }
 stepped m (disconnects c) = record { rows = put m.rows c closed; counts = cond (is_closed (m.rows c)) (reclosed_more m.counts) m.counts }
-stepped m (hasData c) = record { rows = m.rows; counts = cond (is_closed (m.rows c)) (stray_more m.counts) m.counts }
+stepped m (has_data c) = record { rows = m.rows; counts = cond (is_closed (m.rows c)) (stray_more m.counts) m.counts }
 stepped m other = m
 stepped m is_refused = record { rows = m.rows; counts = refused_more m.counts }
 
@@ -86,15 +86,15 @@ remote_in s vs = ipv4 (bytes_of s (value_at vs 2)) (num_of (value_at vs 3))
 
 -- what the frame s says, which reads so. Data of 0031 and of 0036 read alike
 abbrev pub brings : List ℕ → OrRefused Packet → Arrival
-brings s (good (connectEvent vs)) = connects (channel_in vs) (remote_in s vs)
-brings s (good (disconnectEvent vs)) = disconnects (channel_in vs)
-brings s (good (dataPacket vs)) = hasData (channel_in vs)
-brings s (good (dataCommand vs)) = other
+brings s (good (connect_event vs)) = connects (channel_in vs) (remote_in s vs)
+brings s (good (disconnect_event vs)) = disconnects (channel_in vs)
+brings s (good (data_packet vs)) = has_data (channel_in vs)
+brings s (good (data_command vs)) = other
 brings s (good (at_request text)) = other
 brings s (good (at_response r)) = other
 brings s (good (at_packet e)) = other
-brings s (good resendPacket) = other
-brings s (good startPacket) = other
+brings s (good resend_packet) = other
+brings s (good start_packet) = other
 brings s (refused n) = is_refused
 
 -- one step for each frame

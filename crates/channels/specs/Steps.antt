@@ -3,12 +3,12 @@ use Rattle.std.specs.Prelude.{ℕ, ◌≡◌, List, length}
 use Rattle.channels.specs.declared.cell.Cell.{Cell}
 use Rattle.channels.specs.declared.arrival.Arrival as code
 use Rattle.channels.specs.declared.arrival.Arrival.TheVariants as is
-use Rattle.channels.specs.Machine.{Arrival, connects, disconnects, hasData, other, is_refused, Machine, stepped}
+use Rattle.channels.specs.Machine.{Arrival, connects, disconnects, has_data, other, is_refused, Machine, stepped}
 
 abbrev pub arrival_of : code.Arrival → Arrival
 arrival_of (is.Connect c row) = connects c.0 row
 arrival_of (is.Disconnect c) = disconnects c.0
-arrival_of (is.Data c) = hasData c.0
+arrival_of (is.Data c) = has_data c.0
 arrival_of is.Other = other
 arrival_of is.Refused = is_refused
 
@@ -16,7 +16,7 @@ arrival_of is.Refused = is_refused
 abbrev pub channel_of : Arrival → ℕ
 channel_of (connects c row) = c
 channel_of (disconnects c) = c
-channel_of (hasData c) = c
+channel_of (has_data c) = c
 channel_of other = 0
 channel_of is_refused = 0
 

@@ -20,7 +20,7 @@ use Rattle.at.specs.W26.{w26}
 use Rattle.at.specs.W36.{w36, binary_table}
 use Rattle.at.specs.Inside.{IfGood}
 use Rattle.at.proofs.InsideLaws.{line_none, response-none}
-use Rattle.edm.specs.Packet.{Packet, Carries, connect, disconnect, dataEvent, request, response, atEvent, resend, start, unknown, identifiers, carried, connectEvent, dataPacket, disconnectEvent, at_request}
+use Rattle.edm.specs.Packet.{Packet, Carries, connect, disconnect, data_event, request, response, at_event, resend, start, unknown, identifiers, carried, connect_event, data_packet, disconnect_event, at_request}
 use Rattle.edm.specs.Payload.{byte, word, read_connect, read_disconnect, read_data_event, read_request, of_response, of_event, read_payload}
 use Rattle.edm.specs.Frame.{delimited, length_field, payload, read_frame}
 use Rattle.edm.proofs.FrameLaws.{payload-length}
@@ -144,7 +144,7 @@ module _ (s : List ℕ) (six : 6 ≤ length s) where
       (by_test (IfGood (PacketFrom s)) (eqb (length t) 15) (λ e. fields (eqb-true (length t) 15 e)) (λ e. tt)) tt)
     where
       fields : length t ≡ 15
-          → PacketFrom s (connectEvent (num (byte t 0) ∷ num (byte t 2) ∷ place 8 4 ∷ num (word t 7) ∷ place 14 4 ∷ num (word t 13) ∷ []))
+          → PacketFrom s (connect_event (num (byte t 0) ∷ num (byte t 2) ∷ place 8 4 ∷ num (word t 7) ∷ place 14 4 ∷ num (word t 13) ∷ []))
       fields l =
           let n : length s ≡ 21 = omega (arith, long) in
           before-payload Connect [] _
@@ -168,7 +168,7 @@ module _ (s : List ℕ) (six : 6 ≤ length s) where
   unfolding read_disconnect frame_parts
   disconnect_came = by_test (IfGood (PacketFrom s)) (eqb (length t) 1) (λ e. fields (eqb-true (length t) 1 e)) (λ e. tt)
     where
-      fields : length t ≡ 1 → PacketFrom s (disconnectEvent (num (byte t 0) ∷ []))
+      fields : length t ≡ 1 → PacketFrom s (disconnect_event (num (byte t 0) ∷ []))
       fields l =
           before-payload Disconnect [] (num (byte t 0) ∷ [])
           (fixed-came [] s Channel 1 (end_slot ∷ []) 5 (num (byte t 0) ∷ []) (omega (arith, long)) (byte-said 0 (omega arith), end-slot [] s 6))
@@ -177,7 +177,7 @@ module _ (s : List ℕ) (six : 6 ≤ length s) where
   unfolding read_data_event frame_parts
   data-came = by_test (IfGood (PacketFrom s)) (ltb (length t) 1) (λ e. tt) (λ e. fields (ltb-false (length t) 1 e))
     where
-      fields : 1 ≤ length t → PacketFrom s (dataPacket (num (byte t 0) ∷ place 6 (length t - 1) ∷ []))
+      fields : 1 ≤ length t → PacketFrom s (data_packet (num (byte t 0) ∷ place 6 (length t - 1) ∷ []))
       fields l =
           let n : length s - 6 - 1 ≡ length t - 1 = omega (arith, long) in
           before-payload ShapeData [] (num (byte t 0) ∷ place 6 (length t - 1) ∷ [])
@@ -220,10 +220,10 @@ module _ (s : List ℕ) (six : 6 ≤ length s) where
   unfolding frame_parts
   payload-came connect = connect_came
   payload-came disconnect = disconnect_came
-  payload-came dataEvent = data-came
+  payload-came data_event = data-came
   payload-came request = request_came
   payload-came response = response-packet-came
-  payload-came atEvent = event-packet-came
+  payload-came at_event = event-packet-came
   payload-came resend = before-payload Bare [] [] (end-slot [] s 5)
   payload-came start = before-payload Bare [] [] (end-slot [] s 5)
   payload-came unknown = tt

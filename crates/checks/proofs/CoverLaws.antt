@@ -20,7 +20,7 @@ use Rattle.at.specs.W26.{w26}
 use Rattle.at.specs.W36.{w36}
 use Rattle.at.specs.Inside.{IfGood}
 use Rattle.at.proofs.InsideLaws.{line_none}
-use Rattle.edm.specs.Packet.{Packet, Carries, connect, disconnect, dataEvent, request, response, atEvent, resend, start, unknown, identifiers, carried, connectEvent, disconnectEvent, dataPacket, dataCommand, at_request, at_response, at_packet, resendPacket, startPacket}
+use Rattle.edm.specs.Packet.{Packet, Carries, connect, disconnect, data_event, request, response, at_event, resend, start, unknown, identifiers, carried, connect_event, disconnect_event, data_packet, data_command, at_request, at_response, at_packet, resend_packet, start_packet}
 use Rattle.edm.specs.Payload.{byte, word, read_connect, read_disconnect, read_data_event, read_request, of_response, of_event, read_payload}
 use Rattle.edm.specs.Frame.{delimited, length_field, payload, read_frame}
 use Rattle.edm.proofs.FrameLaws.{payload-length}
@@ -165,15 +165,15 @@ module _ (s : List ℕ) where
 
   -- the packets that are covered
   abbrev pub Covered : Packet → Type 0
-  Covered (connectEvent vs) = AllEmpty (passed_over (cut (slots_of true Connect) s))
-  Covered (disconnectEvent vs) = AllEmpty (passed_over (cut (slots_of true Disconnect) s))
-  Covered (dataPacket vs) = AllEmpty (passed_over (cut (slots_of true ShapeData) s))
-  Covered (dataCommand vs) = AllEmpty (passed_over (cut (slots_of true ShapeData) s))
+  Covered (connect_event vs) = AllEmpty (passed_over (cut (slots_of true Connect) s))
+  Covered (disconnect_event vs) = AllEmpty (passed_over (cut (slots_of true Disconnect) s))
+  Covered (data_packet vs) = AllEmpty (passed_over (cut (slots_of true ShapeData) s))
+  Covered (data_command vs) = AllEmpty (passed_over (cut (slots_of true ShapeData) s))
   Covered (at_request v) = AllEmpty (passed_over (cut (slots_of true Request) s))
   Covered (at_response r) = Unit {0}
   Covered (at_packet e) = Unit {0}
-  Covered resendPacket = Unit {0}
-  Covered startPacket = Unit {0}
+  Covered resend_packet = Unit {0}
+  Covered start_packet = Unit {0}
 
   module _ (six : 6 ≤ length s) where
     long : length (payload s) ≡ length s - 6
@@ -228,14 +228,14 @@ module _ (s : List ℕ) where
     payload-whole : (c : Carries) → IfGood Covered (read_payload c 5 (payload s))
     payload-whole connect = connect_whole
     payload-whole disconnect = disconnect_whole
-    payload-whole dataEvent = data-whole
+    payload-whole data_event = data-whole
     payload-whole request = request_whole
     payload-whole response = go (read_response 5 (payload s))
       where
         go : (o : OrRefused Response) → IfGood Covered (of_response o)
         go (good r) = tt
         go (refused n) = tt
-    payload-whole atEvent = go (read_line w26 5 (payload s))
+    payload-whole at_event = go (read_line w26 5 (payload s))
       where
         go : (o : OrRefused ReadEvent) → IfGood Covered (of_event o)
         go (good (event_to e past)) = tt
@@ -271,15 +271,15 @@ module _ (s : List ℕ) where
       ≡ [] ∷ [] ∷ [] ∷ take 2 (drop 5 s) ∷ marks_before 58 (length (event_values e)) ++ take (length s - 1 - d) (drop d s) ∷ [] ∷ [])
 
   abbrev IfEvent : Packet → Type 0
-  IfEvent (connectEvent vs) = Unit {0}
-  IfEvent (disconnectEvent vs) = Unit {0}
-  IfEvent (dataPacket vs) = Unit {0}
-  IfEvent (dataCommand vs) = Unit {0}
+  IfEvent (connect_event vs) = Unit {0}
+  IfEvent (disconnect_event vs) = Unit {0}
+  IfEvent (data_packet vs) = Unit {0}
+  IfEvent (data_command vs) = Unit {0}
   IfEvent (at_request v) = Unit {0}
   IfEvent (at_response r) = Unit {0}
   IfEvent (at_packet e) = EventPassed e
-  IfEvent resendPacket = Unit {0}
-  IfEvent startPacket = Unit {0}
+  IfEvent resend_packet = Unit {0}
+  IfEvent start_packet = Unit {0}
 
   event-passed : 6 ≤ length s → IfGood IfEvent (of_event (read_line w26 5 (payload s)))
   unfolding read_line
@@ -297,14 +297,14 @@ module _ (s : List ℕ) where
       let t = payload s in
       either (IfGood IfEvent) (ltb (length t) 2) tt (either (IfGood IfEvent) (eqb (byte t 1) 2) (either (IfGood IfEvent) (eqb (length t) 15) tt tt) tt)
   event-payload six disconnect = either (IfGood IfEvent) (eqb (length (payload s)) 1) tt tt
-  event-payload six dataEvent = either (IfGood IfEvent) (ltb (length (payload s)) 1) tt tt
+  event-payload six data_event = either (IfGood IfEvent) (ltb (length (payload s)) 1) tt tt
   event-payload six request = either (IfGood IfEvent) (utf8 (payload s)) tt tt
   event-payload six response = go (read_response 5 (payload s))
     where
       go : (o : OrRefused Response) → IfGood IfEvent (of_response o)
       go (good r) = tt
       go (refused n) = tt
-  event-payload six atEvent = event-passed six
+  event-payload six at_event = event-passed six
   event-payload six resend = tt
   event-payload six start = tt
   event-payload six unknown = tt

@@ -29,12 +29,12 @@ found not_binary = all_hold
 found (binary checks) = first_broken checks
 
 pub data Example : Type 0 where
-  a_frame aLine26 aLine36 a_response a_binary : List ℕ → Finding → Example
+  a_frame a_line26 a_line36 a_response a_binary : List ℕ → Finding → Example
 
 abbrev pub Holds : Example → Type 0
 Holds (a_frame s x) = first_broken (frame_checks s) ≡ x
-Holds (aLine26 s x) = first_broken (line_checks w26.w26 0 s) ≡ x
-Holds (aLine36 s x) = first_broken (line_checks w36.w36 0 s) ≡ x
+Holds (a_line26 s x) = first_broken (line_checks w26.w26 0 s) ≡ x
+Holds (a_line36 s x) = first_broken (line_checks w36.w36 0 s) ≡ x
 Holds (a_response s x) = first_broken (response_checks 0 s) ≡ x
 Holds (a_binary s x) = found (binary_checks binary_table 0 s) ≡ x
 
@@ -60,28 +60,28 @@ examples =
     ∷ a_frame (hex "AA 00 05 00 44 41 C3 41 55") (broken c.RequestUtf8 (no 8) 6)
     ∷ a_frame (hex "AA 00 02 00 41 55") (broken c.LineOfTwo (no 12) 5)
     ∷ a_frame (hex "AA 00 0E 00 41 0D 0A 2B 55 55 44 50 44 3A 78 0D 0A 55") (broken (c.FieldByte 1) (invalid 1 (NoNumber Byte)) 14)
-    ∷ aLine26 (hex "0D 0A 41 E2 82") (broken c.Utf8 (no 11) 3)
-    ∷ aLine26 (hex "41") (broken c.LineOfTwo (no 12) 1)
-    ∷ aLine26 (hex "41 C3 A9") (broken c.PlaceTwo (no 12) 2)
-    ∷ aLine26 (bytes "\r\n+UUDPD:7") (broken c.LineEnd (no 12) 10)
-    ∷ aLine26 (bytes "\r\nUUNERR:0,1\r\n") (broken c.EventName (no 16) 2)
-    ∷ aLine26 (bytes "\r\n+UUNU\r\n") (broken (c.FieldThere 1) (missing 1) 7)
-    ∷ aLine26 (bytes "\r\n+UUNU:\r\n") (broken (c.FieldEmpty 1) (invalid 1 (NoNumber Empty)) 8)
-    ∷ aLine26 (bytes "\r\n+UUNU:+\r\n") (broken (c.FieldByte 1) (invalid 1 (NoNumber Byte)) 8)
-    ∷ aLine26 (bytes "\r\n+UUNU:99999x\r\n") (broken (c.FieldByte 1) (invalid 1 (NoNumber Byte)) 8)
-    ∷ aLine26 (bytes "\r\n+UUNU:65536\r\n") (broken (c.FieldLarge 1) (invalid 1 (NoNumber Large)) 8)
-    ∷ aLine26 (bytes "\r\n+UUDPC:1,02\r\n") (broken (c.FieldType 2) (no 13) 11)
-    ∷ aLine26 (bytes "\r\n+UUDPC:x,02\r\n") (broken (c.FieldByte 1) (invalid 1 (NoNumber Byte)) 9)
-    ∷ aLine26 (bytes "\r\n+UUDPC:1,1,0,a\r\n") (broken (c.FieldThere 5) (missing 5) 16)
-    ∷ aLine26 (bytes "\r\n+UUDPC:1,2,3,a\r\n") (broken (c.FieldListed 3) (invalid 3 NotListed) 13)
-    ∷ aLine26 (bytes "\r\n+UUDPC:1,2,300,a\r\n") (broken (c.FieldLarge 3) (invalid 3 (NoNumber Large)) 13)
-    ∷ aLine26 (bytes "\r\n+UUDPC:1,2,x\r\n") (broken (c.FieldByte 3) (invalid 3 (NoNumber Byte)) 13)
-    ∷ aLine26 (bytes "\r\n+UUDPC:1,2,\r\n") (broken (c.FieldEmpty 3) (invalid 3 (NoNumber Empty)) 13)
-    ∷ aLine26 (bytes "\r\n+UUWLE\r\n") (broken (c.FieldThere 1) (missing 1) 8)
-    ∷ aLine26 (bytes "\r\n+UUWLE:x,a,y\r\n") (broken (c.FieldByte 1) (invalid 1 (NoNumber Byte)) 9)
-    ∷ aLine26 (bytes "\r\n+UUETHLU\r\n") all_hold
-    ∷ aLine36 (bytes "\r\n+UEWSNU\r\n\r\n+UESOC:1\r\n") all_hold
-    ∷ aLine36 (bytes "\r\n+UESODA:1\r\nxxxx\r\n") (broken (c.FieldThere 2) (missing 2) 11)
+    ∷ a_line26 (hex "0D 0A 41 E2 82") (broken c.Utf8 (no 11) 3)
+    ∷ a_line26 (hex "41") (broken c.LineOfTwo (no 12) 1)
+    ∷ a_line26 (hex "41 C3 A9") (broken c.PlaceTwo (no 12) 2)
+    ∷ a_line26 (bytes "\r\n+UUDPD:7") (broken c.LineEnd (no 12) 10)
+    ∷ a_line26 (bytes "\r\nUUNERR:0,1\r\n") (broken c.EventName (no 16) 2)
+    ∷ a_line26 (bytes "\r\n+UUNU\r\n") (broken (c.FieldThere 1) (missing 1) 7)
+    ∷ a_line26 (bytes "\r\n+UUNU:\r\n") (broken (c.FieldEmpty 1) (invalid 1 (NoNumber Empty)) 8)
+    ∷ a_line26 (bytes "\r\n+UUNU:+\r\n") (broken (c.FieldByte 1) (invalid 1 (NoNumber Byte)) 8)
+    ∷ a_line26 (bytes "\r\n+UUNU:99999x\r\n") (broken (c.FieldByte 1) (invalid 1 (NoNumber Byte)) 8)
+    ∷ a_line26 (bytes "\r\n+UUNU:65536\r\n") (broken (c.FieldLarge 1) (invalid 1 (NoNumber Large)) 8)
+    ∷ a_line26 (bytes "\r\n+UUDPC:1,02\r\n") (broken (c.FieldType 2) (no 13) 11)
+    ∷ a_line26 (bytes "\r\n+UUDPC:x,02\r\n") (broken (c.FieldByte 1) (invalid 1 (NoNumber Byte)) 9)
+    ∷ a_line26 (bytes "\r\n+UUDPC:1,1,0,a\r\n") (broken (c.FieldThere 5) (missing 5) 16)
+    ∷ a_line26 (bytes "\r\n+UUDPC:1,2,3,a\r\n") (broken (c.FieldListed 3) (invalid 3 NotListed) 13)
+    ∷ a_line26 (bytes "\r\n+UUDPC:1,2,300,a\r\n") (broken (c.FieldLarge 3) (invalid 3 (NoNumber Large)) 13)
+    ∷ a_line26 (bytes "\r\n+UUDPC:1,2,x\r\n") (broken (c.FieldByte 3) (invalid 3 (NoNumber Byte)) 13)
+    ∷ a_line26 (bytes "\r\n+UUDPC:1,2,\r\n") (broken (c.FieldEmpty 3) (invalid 3 (NoNumber Empty)) 13)
+    ∷ a_line26 (bytes "\r\n+UUWLE\r\n") (broken (c.FieldThere 1) (missing 1) 8)
+    ∷ a_line26 (bytes "\r\n+UUWLE:x,a,y\r\n") (broken (c.FieldByte 1) (invalid 1 (NoNumber Byte)) 9)
+    ∷ a_line26 (bytes "\r\n+UUETHLU\r\n") all_hold
+    ∷ a_line36 (bytes "\r\n+UEWSNU\r\n\r\n+UESOC:1\r\n") all_hold
+    ∷ a_line36 (bytes "\r\n+UESODA:1\r\nxxxx\r\n") (broken (c.FieldThere 2) (missing 2) 11)
     ∷ a_response (bytes "OK\r\n") (broken c.LastLineEnd (no 12) 4)
     ∷ a_response (bytes "OK") (broken c.FirstLineEnd (no 12) 2)
     ∷ a_binary (bytes "\r\n+UESODB:2") (broken c.Marker (no 12) 11)

@@ -9,7 +9,7 @@ use Rattle.text.specs.Bytes.{bytes, same}
 use Rattle.text.specs.Number.{Num, some, none, number}
 use Rattle.text.specs.Field.{Field, field}
 use Rattle.at.specs.Refusal.{no, missing, invalid, OrRefused, good, refused}
-use Rattle.at.specs.Event.{Kind, bits, text, ipType, btType, protocol, reason, is_protocol, is_reason, Value, num, listed, read_field, and_rest, take_kind, Read, values, prepend, and_then, take_kinds}
+use Rattle.at.specs.Event.{Kind, bits, text, ip_type, bt_type, protocol, reason, is_protocol, is_reason, Value, num, listed, read_field, and_rest, take_kind, Read, values, prepend, and_then, take_kinds}
 use Rattle.at.specs.declared.FieldError.TheVariants.{NotListed}
 use Rattle.checks.specs.Check.{◌needs◌else◌at◌, Finding, all_hold, broken, first_broken}
 use Rattle.checks.specs.Number.{value_of, number_checks}
@@ -31,11 +31,11 @@ number-form : (i p : ℕ) (n : Num) → found_number i p n ≡ found_form i p (l
 number-form i p (some n) = refl
 number-form i p (none why) = refl
 
-listed-form : (i p : ℕ) (inList : ℕ → Bool) (b : List ℕ)
-    → first_broken (number_checks i 8 p b ++ (FieldListed i needs inList (value_of b) else invalid i NotListed at p) ∷ []) ≡ found_form i p (listed i inList (number 8 b))
+listed-form : (i p : ℕ) (in_list : ℕ → Bool) (b : List ℕ)
+    → first_broken (number_checks i 8 p b ++ (FieldListed i needs in_list (value_of b) else invalid i NotListed at p) ∷ []) ≡ found_form i p (listed i in_list (number 8 b))
 unfolding first_broken
-listed-form i p inList b =
-    joined (number_checks i 8 p b) ((FieldListed i needs inList (value_of b) else invalid i NotListed at p) ∷ [])
+listed-form i p in_list b =
+    joined (number_checks i 8 p b) ((FieldListed i needs in_list (value_of b) else invalid i NotListed at p) ∷ [])
     ∙ rw (number-found i 8 p b) (go (number 8 b) refl)
   where
     more : (n : ℕ) (k : Bool) → cond k all_hold (broken (FieldListed i) (invalid i NotListed) p) ≡ found_form i p (cond k (good (num n)) (refused (invalid i NotListed)))
@@ -43,8 +43,8 @@ listed-form i p inList b =
     more n false = refl
 
     go : (o : Num) → number 8 b ≡ o
-        → and_also (found_number i p o) (first_broken ((FieldListed i needs inList (value_of b) else invalid i NotListed at p) ∷ [])) ≡ found_form i p (listed i inList o)
-    go (some n) e = rw (number-value 8 n b e) (more n (inList n))
+        → and_also (found_number i p o) (first_broken ((FieldListed i needs in_list (value_of b) else invalid i NotListed at p) ∷ [])) ≡ found_form i p (listed i in_list o)
+    go (some n) e = rw (number-value 8 n b e) (more n (in_list n))
     go (none why) e = refl
 
 type_form : (i p : ℕ) (two three : Bool)
@@ -63,8 +63,8 @@ form : (i : ℕ) (k : Kind) (p : ℕ) (b : List ℕ) → first_broken (form_chec
 unfolding read_field
 form i (bits w) p b = number-found i w p b ∙ number-form i p (number w b)
 form i text p b = found_none
-form i ipType p b = type_form i p (same b (bytes "2")) (same b (bytes "3"))
-form i btType p b = bluetooth_form i p (same b (bytes "1"))
+form i ip_type p b = type_form i p (same b (bytes "2")) (same b (bytes "3"))
+form i bt_type p b = bluetooth_form i p (same b (bytes "1"))
 form i protocol p b = listed-form i p is_protocol b
 form i reason p b = listed-form i p is_reason b
 
@@ -72,8 +72,8 @@ form i reason p b = listed-form i p is_reason b
 abbrev pub is_type : Kind → Bool
 is_type (bits w) = false
 is_type text = false
-is_type ipType = true
-is_type btType = true
+is_type ip_type = true
+is_type bt_type = true
 is_type protocol = false
 is_type reason = false
 
@@ -83,9 +83,9 @@ Own i k (refused (no n)) = (n ≡ 13) × (is_type k ≡ true)
 Own i k (refused (missing j)) = ⊥
 Own i k (refused (invalid j why)) = j ≡ i
 
-listed_own : (i : ℕ) (k : Kind) (inList : ℕ → Bool) (n : Num) → Own i k (listed i inList n)
-listed_own i k inList (none why) = refl
-listed_own i k inList (some n) = go (inList n)
+listed_own : (i : ℕ) (k : Kind) (in_list : ℕ → Bool) (n : Num) → Own i k (listed i in_list n)
+listed_own i k in_list (none why) = refl
+listed_own i k in_list (some n) = go (in_list n)
   where
     go : (t : Bool) → Own i k (cond t (good (num n)) (refused (invalid i NotListed)))
     go true = tt
@@ -95,15 +95,15 @@ field_own_lem : (i : ℕ) (k : Kind) (p : ℕ) (b : List ℕ) → Own i k (read_
 unfolding read_field
 field_own_lem i (bits w) p b = listed_own i (bits w) (λ n. true) (number w b)
 field_own_lem i text p b = tt
-field_own_lem i ipType p b = go (same b (bytes "2")) (same b (bytes "3"))
+field_own_lem i ip_type p b = go (same b (bytes "2")) (same b (bytes "3"))
   where
-    go : (two three : Bool) → Own i ipType (cond two (good (num 2)) (cond three (good (num 3)) (refused (no 13))))
+    go : (two three : Bool) → Own i ip_type (cond two (good (num 2)) (cond three (good (num 3)) (refused (no 13))))
     go true three = tt
     go false true = tt
     go false false = (refl, refl)
-field_own_lem i btType p b = go (same b (bytes "1"))
+field_own_lem i bt_type p b = go (same b (bytes "1"))
   where
-    go : (one : Bool) → Own i btType (cond one (good (num 1)) (refused (no 13)))
+    go : (one : Bool) → Own i bt_type (cond one (good (num 1)) (refused (no 13)))
     go true = tt
     go false = (refl, refl)
 field_own_lem i protocol p b = listed_own i protocol is_protocol (number 8 b)

@@ -13,7 +13,7 @@ use Rattle.at.specs.Event.{ReadEvent, event_to}
 use Rattle.at.specs.Line.{read_line}
 use Rattle.at.specs.Response.{Response, read_response}
 use Rattle.at.specs.W26.{w26}
-use Rattle.edm.specs.Packet.{Carries, connect, disconnect, dataEvent, request, response, atEvent, resend, start, unknown, Packet}
+use Rattle.edm.specs.Packet.{Carries, connect, disconnect, data_event, request, response, at_event, resend, start, unknown, Packet}
 use Rattle.edm.specs.Payload.{byte, read_connect, read_disconnect, read_data_event, read_request, of_response, of_event, read_payload}
 use Rattle.edm.specs.Frame.{length_field, payload, read_frame}
 use Rattle.checks.specs.Check.{◌needs◌else◌at◌, Finding, all_hold, broken, first_broken}
@@ -53,7 +53,7 @@ module _ (s : List ℕ) where
   abbrev t : List ℕ
   t = payload s
 
-  event-found : carried_by s ≡ atEvent → (a : OrRefused ReadEvent) → From 11 a → found_line w26 5 t a ≡ found_frame s (of_event a)
+  event-found : carried_by s ≡ at_event → (a : OrRefused ReadEvent) → From 11 a → found_line w26 5 t a ≡ found_frame s (of_event a)
   unfolding at_reason
   event-found c (good (event_to e past)) f = refl
   event-found c (refused n) f = rw (at-refused s n f, c)
@@ -77,7 +77,7 @@ module _ (s : List ℕ) where
         go true true false k = refl
         go true true true k = refl
 
-    data-found : carried_by s ≡ dataEvent → first_broken (payload_checks dataEvent 5 t) ≡ found_frame s (read_data_event 5 t)
+    data-found : carried_by s ≡ data_event → first_broken (payload_checks data_event 5 t) ≡ found_frame s (read_data_event 5 t)
     unfolding read_data_event frame_reason first_broken size_reason
     data-found c = rw (below (length t) 1) (go (leb 1 (length t)) _)
       where
@@ -93,14 +93,14 @@ module _ (s : List ℕ) where
         go : (a : Bool) (k : Packet) → cond a all_hold (broken DisconnectSize (no 7) (5 + length t)) ≡ found_frame s (cond a (good k) (refused (no 7)))
         go false k = refl
         go true k = refl
-    payload-found dataEvent e = data-found e
+    payload-found data_event e = data-found e
     payload-found request e = go (utf8 t) _
       where
         go : (a : Bool) (k : Packet) → cond a all_hold (broken RequestUtf8 (no 8) (5 + valid_up_to t)) ≡ found_frame s (cond a (good k) (refused (no 8)))
         go false k = refl
         go true k = refl
     payload-found response e = response-found 5 t ∙ answer-found e (read_response 5 t) (response-from 5 t)
-    payload-found atEvent e = line_found w26 w26_chooses 5 t ∙ event-found e (read_line w26 5 t) (line_from w26 w26_chooses 5 t)
+    payload-found at_event e = line_found w26 w26_chooses 5 t ∙ event-found e (read_line w26 5 t) (line_from w26 w26_chooses 5 t)
     payload-found resend e = refl
     payload-found start e = refl
     payload-found unknown e = refl

@@ -17,14 +17,14 @@ use Rattle.text.proofs.FindLaws.{first_le}
 use Rattle.text.proofs.BytesLaws.{starts_length}
 use Rattle.at.specs.Refusal.{Refusal, refusal_of}
 use Rattle.at.specs.declared.AtPacketError.{AtPacketError}
-use Rattle.at.specs.Event.{Kind, bits, text, ipType, btType, protocol, reason, Row, kinds_of}
+use Rattle.at.specs.Event.{Kind, bits, text, ip_type, bt_type, protocol, reason, Row, kinds_of}
 use Rattle.at.specs.Line.{Radio, before, rows_named, fields_after}
 use Rattle.at.specs.Binary as reader
 use Rattle.at.specs.Binary.{fields_up_to, marker, prefix, Tried, try_rows}
 use Rattle.at.specs.W26.{w26}
 use Rattle.at.specs.W36.{w36, binary_table}
 use Rattle.at.proofs.InsideLaws.{FieldsInside, after-inside, up_to_inside, Stays, stays_26, stays_36}
-use Rattle.edm.specs.Packet.{Carries, connect, disconnect, dataEvent, request, response, atEvent, resend, start, unknown}
+use Rattle.edm.specs.Packet.{Carries, connect, disconnect, data_event, request, response, at_event, resend, start, unknown}
 use Rattle.edm.specs.Frame.{payload}
 use Rattle.edm.proofs.FrameLaws.{payload-length}
 use Rattle.checks.specs.Check.{Check, ◌needs◌else◌at◌, broken, first_broken}
@@ -65,8 +65,8 @@ within_both n ((c needs h else k at b) ∷ first) then f t = (f.0, λ e. within_
 form-within : (n i : ℕ) (k : Kind) (p : ℕ) (b : List ℕ) → p ≤ n → Within n (form_checks i k p b)
 form-within n i (bits w) p b h = (h, λ _. (h, λ _. (h, λ _. tt)))
 form-within n i text p b h = tt
-form-within n i ipType p b h = (h, λ _. tt)
-form-within n i btType p b h = (h, λ _. tt)
+form-within n i ip_type p b h = (h, λ _. tt)
+form-within n i bt_type p b h = (h, λ _. tt)
 form-within n i protocol p b h = (h, λ _. (h, λ _. (h, λ _. (h, λ _. tt))))
 form-within n i reason p b h = (h, λ _. (h, λ _. (h, λ _. (h, λ _. tt))))
 
@@ -127,10 +127,10 @@ rows-within (r ∷ rs) n p s h = go (starts_with s (prefix r)) refl (rows-within
 payload-within : (c : Carries) (n : ℕ) (t : List ℕ) → 5 + length t ≤ n → Within n (payload_checks c 5 t)
 payload-within connect n t h = (h, λ two. (omega (arith, leb-true 2 (length t) two), λ _. (h, λ _. tt)))
 payload-within disconnect n t h = (h, λ _. tt)
-payload-within dataEvent n t h = (h, λ _. tt)
+payload-within data_event n t h = (h, λ _. tt)
 payload-within request n t h = (omega (arith, valid_le t), λ _. tt)
 payload-within response n t h = response-within n 5 t h
-payload-within atEvent n t h = line_within w26 stays_26 n 5 t h
+payload-within at_event n t h = line_within w26 stays_26 n 5 t h
 payload-within resend n t h = tt
 payload-within start n t h = tt
 payload-within unknown n t h = tt

@@ -7,25 +7,25 @@ use Rattle.at.specs.Event.{num, place, event, event_to}
 use Rattle.at.specs.Response.{ok}
 use Rattle.at.specs.W26.{UUDPD}
 use Rattle.at.specs.W36.{UEWLD, UESODBF}
-use Rattle.edm.specs.Packet.{connectEvent, dataPacket, at_packet, startPacket}
+use Rattle.edm.specs.Packet.{connect_event, data_packet, at_packet, start_packet}
 use Rattle.checks.specs.Slot.{span_of, field_slots, marked_slots, slots_of}
 use Rattle.checks.specs.Part.{◌from◌for◌, cut, placed, response_shape, line_shape, binary_shape, parts_by, frame_parts}
 use Rattle.checks.specs.declared.part.PartName.TheVariants.{StartByte, Length, Identifier, Channel, ConnectType, Protocol, RemoteAddress, RemotePort, LocalAddress, LocalPort, Data, Text, Name, Field, Marker, DataLength, EndByte}
 
 -- a connect event has the remote end first
-pub connect_parts : frame_parts (hex "AA 00 11 00 11 03 02 01 0A 00 00 07 1F 90 0A 00 00 01 C3 50 55") (connectEvent (num 3 ∷ num 1 ∷ place 8 4 ∷ num 8080 ∷ place 14 4 ∷ num 50000 ∷ []))
+pub connect_parts : frame_parts (hex "AA 00 11 00 11 03 02 01 0A 00 00 07 1F 90 0A 00 00 01 C3 50 55") (connect_event (num 3 ∷ num 1 ∷ place 8 4 ∷ num 8080 ∷ place 14 4 ∷ num 50000 ∷ []))
     ≡ (StartByte from 0 for 1) ∷ (Length from 1 for 2) ∷ (Identifier from 3 for 2) ∷ (Channel from 5 for 1) ∷ (ConnectType from 6 for 1) ∷ (Protocol from 7 for 1)
     ∷ (RemoteAddress from 8 for 4) ∷ (RemotePort from 12 for 2) ∷ (LocalAddress from 14 for 4) ∷ (LocalPort from 18 for 2) ∷ (EndByte from 20 for 1) ∷ []
 unfolding frame_parts placed cut slots_of span_of
 connect_parts = refl
 
-pub data_parts : frame_parts (hex "AA 00 05 00 31 03 41 42 55") (dataPacket (num 3 ∷ place 6 2 ∷ []))
+pub data_parts : frame_parts (hex "AA 00 05 00 31 03 41 42 55") (data_packet (num 3 ∷ place 6 2 ∷ []))
     ≡ (StartByte from 0 for 1) ∷ (Length from 1 for 2) ∷ (Identifier from 3 for 2) ∷ (Channel from 5 for 1) ∷ (Data from 6 for 2) ∷ (EndByte from 8 for 1) ∷ []
 unfolding frame_parts placed cut slots_of span_of
 data_parts = refl
 
 -- a start event ignores its payload
-pub start_parts : frame_parts (hex "AA 00 03 00 71 07 55") startPacket ≡ (StartByte from 0 for 1) ∷ (Length from 1 for 2) ∷ (Identifier from 3 for 2) ∷ (EndByte from 6 for 1) ∷ []
+pub start_parts : frame_parts (hex "AA 00 03 00 71 07 55") start_packet ≡ (StartByte from 0 for 1) ∷ (Length from 1 for 2) ∷ (Identifier from 3 for 2) ∷ (EndByte from 6 for 1) ∷ []
 unfolding frame_parts placed cut slots_of span_of
 start_parts = refl
 

@@ -4,7 +4,7 @@ use Rattle.text.specs.Bytes.{part}
 use Rattle.at.specs.Refusal.{OrRefused, good}
 use Rattle.at.specs.Event.{Kind, kinds_of, Value, num, place, Event, event, ReadEvent, event_to, read_field}
 use Rattle.at.specs.Response.{Response, ok, other, error}
-use Rattle.edm.specs.Packet.{Packet, connectEvent, disconnectEvent, dataPacket, dataCommand, at_request, at_response, at_packet, resendPacket, startPacket}
+use Rattle.edm.specs.Packet.{Packet, connect_event, disconnect_event, data_packet, data_command, at_request, at_response, at_packet, resend_packet, start_packet}
 use Rattle.checks.specs.Part.{Part, ◌from◌for◌, InOrder, EachWithin}
 use Rattle.checks.specs.declared.part.PartName.{PartName}
 use Rattle.checks.specs.declared.part.PartName.TheVariants.{StartByte, Length, Identifier, Channel, ConnectType, Protocol, RemoteAddress, RemotePort, LocalAddress, LocalPort, Data, Text, Name, Field, Marker, DataLength, EndByte}
@@ -12,33 +12,33 @@ use Rattle.checks.specs.declared.part.PartName.TheVariants.{StartByte, Length, I
 -- how a field says a value: not at all, since it only shapes the input; as a number, high byte first; as its bytes, which are a place and a length;
 -- or as the field of an event with a number and a kind
 pub data How : Type 0 where
-  asShape as_number asBytes : How
+  as_shape as_number as_bytes : How
   as_field : ℕ → Kind → How
 
 -- the field i, of the first of these kinds
 abbrev pub field_how : ℕ → List Kind → How
-field_how i [] = asShape
+field_how i [] = as_shape
 field_how i (k ∷ ks) = as_field i k
 
 -- by its name; the fields of an event are of the kinds ks
 abbrev pub how_of : List Kind → PartName → How
-how_of ks StartByte = asShape
-how_of ks Length = asShape
-how_of ks Identifier = asShape
+how_of ks StartByte = as_shape
+how_of ks Length = as_shape
+how_of ks Identifier = as_shape
 how_of ks Channel = as_number
-how_of ks ConnectType = asShape
+how_of ks ConnectType = as_shape
 how_of ks Protocol = as_number
-how_of ks RemoteAddress = asBytes
+how_of ks RemoteAddress = as_bytes
 how_of ks RemotePort = as_number
-how_of ks LocalAddress = asBytes
+how_of ks LocalAddress = as_bytes
 how_of ks LocalPort = as_number
-how_of ks Data = asBytes
-how_of ks Text = asBytes
-how_of ks Name = asShape
+how_of ks Data = as_bytes
+how_of ks Text = as_bytes
+how_of ks Name = as_shape
 how_of ks (Field i) = field_how i (drop (i - 1) ks)
-how_of ks Marker = asShape
-how_of ks DataLength = asShape
-how_of ks EndByte = asShape
+how_of ks Marker = as_shape
+how_of ks DataLength = as_shape
+how_of ks EndByte = as_shape
 
 -- the number that bytes say after n, high byte first
 unfoldable pub high_first : ℕ → List ℕ → ℕ
@@ -51,9 +51,9 @@ pub data Said : Type 0 where
   says : OrRefused Value → Said
 
 abbrev pub said_by : How → ℕ → List ℕ → Said
-said_by asShape p b = nothing
+said_by as_shape p b = nothing
 said_by as_number p b = says (good (num (high_first 0 b)))
-said_by asBytes p b = says (good (place p (length b)))
+said_by as_bytes p b = says (good (place p (length b)))
 said_by (as_field i k) p b = says (read_field i k p b)
 
 -- a field that says something gives the first of some values, and the fields after it give the others
@@ -94,23 +94,23 @@ response_values (other p n) = place p n ∷ []
 response_values error = []
 
 abbrev pub packet_values : Packet → List Value
-packet_values (connectEvent vs) = vs
-packet_values (disconnectEvent vs) = vs
-packet_values (dataPacket vs) = vs
-packet_values (dataCommand vs) = vs
+packet_values (connect_event vs) = vs
+packet_values (disconnect_event vs) = vs
+packet_values (data_packet vs) = vs
+packet_values (data_command vs) = vs
 packet_values (at_request v) = v ∷ []
 packet_values (at_response r) = response_values r
 packet_values (at_packet e) = event_values e
-packet_values resendPacket = []
-packet_values startPacket = []
+packet_values resend_packet = []
+packet_values start_packet = []
 
 abbrev pub packet_kinds : Packet → List Kind
-packet_kinds (connectEvent vs) = []
-packet_kinds (disconnectEvent vs) = []
-packet_kinds (dataPacket vs) = []
-packet_kinds (dataCommand vs) = []
+packet_kinds (connect_event vs) = []
+packet_kinds (disconnect_event vs) = []
+packet_kinds (data_packet vs) = []
+packet_kinds (data_command vs) = []
 packet_kinds (at_request v) = []
 packet_kinds (at_response r) = []
 packet_kinds (at_packet e) = event_kinds e
-packet_kinds resendPacket = []
-packet_kinds startPacket = []
+packet_kinds resend_packet = []
+packet_kinds start_packet = []

@@ -3,7 +3,7 @@ use Rattle.std.specs.Prelude.{ℕ, ◌+◌, ◌-◌, List, [], ◌∷◌, Bool, 
 use Rattle.text.specs.Utf8.{utf8, valid_up_to}
 use Rattle.at.specs.Refusal.{no}
 use Rattle.at.specs.W26.{w26}
-use Rattle.edm.specs.Packet.{Carries, connect, disconnect, dataEvent, request, response, atEvent, resend, start, unknown, identifiers, carried}
+use Rattle.edm.specs.Packet.{Carries, connect, disconnect, data_event, request, response, at_event, resend, start, unknown, identifiers, carried}
 use Rattle.edm.specs.Payload.{byte, word}
 use Rattle.edm.specs.Frame.{length_field, payload}
 use Rattle.checks.specs.Check.{Check, ◌needs◌else◌at◌}
@@ -19,10 +19,10 @@ payload_checks connect p t =
     ∷ (ConnectSize needs eqb (length t) 15 else no 6 at p + length t)
     ∷ []
 payload_checks disconnect p t = (DisconnectSize needs eqb (length t) 1 else no 7 at p + length t) ∷ []
-payload_checks dataEvent p t = (DataChannel needs leb 1 (length t) else no 2 at p + length t) ∷ []
+payload_checks data_event p t = (DataChannel needs leb 1 (length t) else no 2 at p + length t) ∷ []
 payload_checks request p t = (RequestUtf8 needs utf8 t else no 8 at p + valid_up_to t) ∷ []
 payload_checks response p t = response_checks p t
-payload_checks atEvent p t = line_checks w26 p t
+payload_checks at_event p t = line_checks w26 p t
 payload_checks resend p t = []
 payload_checks start p t = []
 payload_checks unknown p t = []
@@ -31,10 +31,10 @@ abbrev pub is_known : Carries → Bool
 is_known unknown = false
 is_known connect = true
 is_known disconnect = true
-is_known dataEvent = true
+is_known data_event = true
 is_known request = true
 is_known response = true
-is_known atEvent = true
+is_known at_event = true
 is_known resend = true
 is_known start = true
 

@@ -5,7 +5,7 @@ use Rattle.text.specs.Find.{crlf}
 use Rattle.text.specs.Utf8.{utf8, valid_up_to, inside_character}
 use Rattle.text.specs.Field.{Field, field}
 use Rattle.at.specs.Refusal.{no, missing, invalid}
-use Rattle.at.specs.Event.{Kind, bits, text, ipType, btType, protocol, reason, is_protocol, is_reason, Row, kinds_of}
+use Rattle.at.specs.Event.{Kind, bits, text, ip_type, bt_type, protocol, reason, is_protocol, is_reason, Row, kinds_of}
 use Rattle.at.specs.Line.{Radio, before, ends_in, rows_named, fields_after}
 use Rattle.at.specs.declared.FieldError.TheVariants.{NotListed}
 use Rattle.checks.specs.Check.{Check, ◌needs◌else◌at◌}
@@ -16,8 +16,8 @@ use Rattle.checks.specs.declared.CheckName.TheVariants.{Utf8, LineOfTwo, PlaceTw
 abbrev pub of_type : Kind → List ℕ → Bool
 of_type (bits w) b = true
 of_type text b = true
-of_type ipType b = same b (bytes "2") || same b (bytes "3")
-of_type btType b = same b (bytes "1")
+of_type ip_type b = same b (bytes "2") || same b (bytes "3")
+of_type bt_type b = same b (bytes "1")
 of_type protocol b = true
 of_type reason b = true
 
@@ -25,8 +25,8 @@ of_type reason b = true
 abbrev pub form_checks : ℕ → Kind → ℕ → List ℕ → List Check
 form_checks i (bits w) p b = number_checks i w p b
 form_checks i text p b = []
-form_checks i ipType p b = (FieldType i needs of_type ipType b else no 13 at p) ∷ []
-form_checks i btType p b = (FieldType i needs of_type btType b else no 13 at p) ∷ []
+form_checks i ip_type p b = (FieldType i needs of_type ip_type b else no 13 at p) ∷ []
+form_checks i bt_type p b = (FieldType i needs of_type bt_type b else no 13 at p) ∷ []
 form_checks i protocol p b = number_checks i 8 p b ++ (FieldListed i needs is_protocol (value_of b) else invalid i NotListed at p) ∷ []
 form_checks i reason p b = number_checks i 8 p b ++ (FieldListed i needs is_reason (value_of b) else invalid i NotListed at p) ∷ []
 

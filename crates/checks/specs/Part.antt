@@ -5,7 +5,7 @@ use Prim.Native.Char.{code}
 use Rattle.text.specs.Bytes.{part}
 use Rattle.at.specs.Event.{Event, event, ReadEvent, event_to}
 use Rattle.at.specs.Response.{Response, ok, other, error}
-use Rattle.edm.specs.Packet.{Packet, connectEvent, disconnectEvent, dataPacket, dataCommand, at_request, at_response, at_packet, resendPacket, startPacket}
+use Rattle.edm.specs.Packet.{Packet, connect_event, disconnect_event, data_packet, data_command, at_request, at_response, at_packet, resend_packet, start_packet}
 use Rattle.checks.specs.Slot.{span_of, slots_of}
 use Rattle.checks.specs.declared.part.PartName.{PartName}
 use Rattle.checks.specs.declared.part.Shape.{Shape}
@@ -101,15 +101,15 @@ abbrev pub event_shape : ℕ → Event → Shape
 event_shape m (event r vs) = shape.Event (length vs) m
 
 abbrev pub packet_shape : Packet → Shape
-packet_shape (connectEvent vs) = shape.Connect
-packet_shape (disconnectEvent vs) = shape.Disconnect
-packet_shape (dataPacket vs) = shape.Data
-packet_shape (dataCommand vs) = shape.Data
+packet_shape (connect_event vs) = shape.Connect
+packet_shape (disconnect_event vs) = shape.Disconnect
+packet_shape (data_packet vs) = shape.Data
+packet_shape (data_command vs) = shape.Data
 packet_shape (at_request v) = shape.Request
 packet_shape (at_response r) = response_shape 5 r
 packet_shape (at_packet e) = event_shape 3 e
-packet_shape resendPacket = shape.Bare
-packet_shape startPacket = shape.Bare
+packet_shape resend_packet = shape.Bare
+packet_shape start_packet = shape.Bare
 
 -- of a line in an input of n bytes: its text ends before the CR LF that the event ends with
 abbrev pub line_shape : ℕ → ReadEvent → Shape

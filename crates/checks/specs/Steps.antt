@@ -12,7 +12,7 @@ use Rattle.at.specs.Event.{Row}
 use Rattle.at.specs.Binary.{marker, prefix}
 use Rattle.at.specs.declared.FieldError.{FieldError}
 use Rattle.at.specs.declared.FieldError.TheVariants.{NoNumber, NotListed}
-use Rattle.edm.specs.Packet.{Carries, connect, disconnect, dataEvent, request, response, atEvent, resend, start, unknown}
+use Rattle.edm.specs.Packet.{Carries, connect, disconnect, data_event, request, response, at_event, resend, start, unknown}
 use Rattle.edm.specs.Payload.{byte}
 use Rattle.edm.specs.Frame.{payload}
 use Rattle.checks.specs.Check.{Finding, broken}
@@ -88,10 +88,10 @@ delimiter_reason s n =
 abbrev pub is_connect : Carries → Bool
 is_connect connect = true
 is_connect disconnect = false
-is_connect dataEvent = false
+is_connect data_event = false
 is_connect request = false
 is_connect response = false
-is_connect atEvent = false
+is_connect at_event = false
 is_connect resend = false
 is_connect start = false
 is_connect unknown = false
@@ -99,10 +99,10 @@ is_connect unknown = false
 abbrev pub is_response : Carries → Bool
 is_response connect = false
 is_response disconnect = false
-is_response dataEvent = false
+is_response data_event = false
 is_response request = false
 is_response response = true
-is_response atEvent = false
+is_response at_event = false
 is_response resend = false
 is_response start = false
 is_response unknown = false

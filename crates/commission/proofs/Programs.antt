@@ -12,7 +12,7 @@ use borrow.Fn.Kinds.{Dens, ended_of}
 use Rattle.channels.specs.declared.Channels.{Channels}
 use Rattle.channels.specs.Machine.{Machine, run}
 use Rattle.channels.specs.View.{view}
-use Rattle.commission.specs.Question.{Asked, feeds, asks_row, asksRows, asksCounts, nothing, asked_in}
+use Rattle.commission.specs.Question.{Asked, feeds, asks_row, asks_rows, asks_counts, nothing, asked_in}
 use Rattle.commission.specs.Reply.{after}
 use Rattle.commission.specs.declared.session.Session.{Session}
 use Rattle.commission.proofs.session.answered as answered
@@ -39,8 +39,8 @@ pub data Lines (T : RattleType) (L : Laws T) (g : Print.Ghosts T.Denot) (d : Dic
 abbrev pub frame_in : Asked → List (List ℕ)
 frame_in (feeds frame) = frame ∷ []
 frame_in (asks_row c) = []
-frame_in asksRows = []
-frame_in asksCounts = []
+frame_in asks_rows = []
+frame_in asks_counts = []
 frame_in nothing = []
 
 abbrev pub frames_in : (T : RattleType) (L : Laws T) (g : Print.Ghosts T.Denot) (d : Dict) {t w : Channels} → Lines T L g d t w → List (List ℕ)
@@ -51,8 +51,8 @@ run_on : (m : Machine) (a : Asked) (frames : List (List ℕ)) → run (after m a
 unfolding run
 run_on m (feeds frame) frames = refl
 run_on m (asks_row c) frames = refl
-run_on m asksRows frames = refl
-run_on m asksCounts frames = refl
+run_on m asks_rows frames = refl
+run_on m asks_counts frames = refl
 run_on m nothing frames = refl
 
 pub lines_are_run : (T : RattleType) (L : Laws T) (g : Print.Ghosts T.Denot) (d : Dict) {t w : Channels} (r : Lines T L g d t w) → view w ≡ run (view t) (frames_in T L g d r)

@@ -22,7 +22,7 @@ use Rattle.lines.specs.Number.{number_in}
 use Rattle.lines.specs.Output.{Holds}
 use Rattle.channels.specs.Machine.{Machine, ipv4}
 use Rattle.channels.specs.View.{view}
-use Rattle.commission.specs.Question.{Asked, feeds, asksRows, nothing, asked, asked_in}
+use Rattle.commission.specs.Question.{Asked, feeds, asks_rows, nothing, asked, asked_in}
 use Rattle.commission.specs.Reply.{row_line, open_rows, after, answer_line}
 use Rattle.commission.specs.declared.session.Session.{Session}
 use Rattle.commission.proofs.session.answered as answered
@@ -62,8 +62,8 @@ module _ (T : RattleType) (L : Laws T) (g : Print.Ghosts T.Denot) (d : Dict) (κ
   bad_line h = leaves nothing h
 
   -- one whose questions change the table
-  pub rows_answered : asked_in earlier.is_too_long line ≡ asksRows → Leaves (open_rows m 256 ++ bytes "end" ++ bytes "\n") m
-  rows_answered h = leaves asksRows h
+  pub rows_answered : asked_in earlier.is_too_long line ≡ asks_rows → Leaves (open_rows m 256 ++ bytes "end" ++ bytes "\n") m
+  rows_answered h = leaves asks_rows h
 
   -- one that takes 256 for channel 0; one that takes a sign; one that takes a word with a space too many
   pub no_channel : earlier.is_too_long ≡ false → line ≡ bytes "row 256" → Leaves (bytes "what?\n") m

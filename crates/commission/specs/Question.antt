@@ -13,7 +13,7 @@ use Rattle.lines.specs.Number.{Amount, amount, no_amount, number_in}
 pub data Asked : Type 0 where
   feeds : List ℕ → Asked
   asks_row : ℕ → Asked
-  asksRows asksCounts nothing : Asked
+  asks_rows asks_counts nothing : Asked
 
 abbrev pub of_hex : Spelt → Asked
 of_hex (spells frame) = feeds frame
@@ -28,7 +28,7 @@ with_rest (cut word rest) = cond (same word (bytes "frame")) (of_hex (bytes_in r
 with_rest whole = nothing
 
 unfoldable pub asked : List ℕ → Asked
-asked line = cond (same line (bytes "rows")) asksRows (cond (same line (bytes "counts")) asksCounts (with_rest (cut_at (bytes " ") line)))
+asked line = cond (same line (bytes "rows")) asks_rows (cond (same line (bytes "counts")) asks_counts (with_rest (cut_at (bytes " ") line)))
 
 -- a line of more than 16,384 bytes, some of which may be gone when its end is read, asks nothing; a CR at the end does not count
 unfoldable pub asked_in : Bool → List ℕ → Asked

@@ -8,7 +8,7 @@ use Rattle.render.specs.Print.{Prints}
 use Rattle.channels.specs.declared.cell.Row.{Row}
 use Rattle.channels.specs.declared.cell.Counts.{Counts}
 use Rattle.channels.specs.Machine.{Machine, is_closed, step}
-use Rattle.commission.specs.Question.{Asked, feeds, asks_row, asksRows, asksCounts, nothing}
+use Rattle.commission.specs.Question.{Asked, feeds, asks_row, asks_rows, asks_counts, nothing}
 
 -- the four bytes of an address, which is a number
 abbrev pub dotted : ℕ → List ℕ
@@ -38,16 +38,16 @@ counts_line n = changes_line n ++ bytes " stray " ++ decimal n.stray ++ bytes " 
 abbrev pub reply : Machine → Asked → List ℕ
 reply m (feeds frame) = frame_line frame (read_frame frame)
 reply m (asks_row c) = row_line c (m.rows c)
-reply m asksRows = open_rows m 256 ++ bytes "end"
-reply m asksCounts = counts_line m.counts
+reply m asks_rows = open_rows m 256 ++ bytes "end"
+reply m asks_counts = counts_line m.counts
 reply m nothing = bytes "what?"
 
 -- only a frame changes the table
 abbrev pub after : Machine → Asked → Machine
 after m (feeds frame) = step m frame
 after m (asks_row c) = m
-after m asksRows = m
-after m asksCounts = m
+after m asks_rows = m
+after m asks_counts = m
 after m nothing = m
 
 -- the answer as it is written, with its line end

@@ -3,12 +3,12 @@ use Rattle.std.specs.Prelude.{ℕ, List}
 use Rattle.text.specs.Bytes.{part}
 use Rattle.commission.specs.declared.question.Question.{Question}
 use Rattle.commission.specs.declared.question.Question.TheVariants as question
-use Rattle.commission.specs.Question.{Asked, feeds, asks_row, asksRows, asksCounts, nothing}
+use Rattle.commission.specs.Question.{Asked, feeds, asks_row, asks_rows, asks_counts, nothing}
 
 -- the frame's bytes stand at the start of the buffer
 abbrev pub asked_of : List ℕ → Question → Asked
 asked_of buffer (question.Frame n) = feeds (part buffer 0 n)
 asked_of buffer (question.Row c) = asks_row c.0
-asked_of buffer question.Rows = asksRows
-asked_of buffer question.Counts = asksCounts
+asked_of buffer question.Rows = asks_rows
+asked_of buffer question.Counts = asks_counts
 asked_of buffer question.Nothing = nothing

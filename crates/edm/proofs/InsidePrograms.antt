@@ -19,7 +19,7 @@ use Rattle.at.specs.Response.{Response, read_response}
 use Rattle.at.specs.W26.{w26}
 use Rattle.at.specs.Inside.{IfGood, AnswerInside, ResponseInside}
 use Rattle.at.proofs.InsideLaws.{stays_26, line_inside, response-inside}
-use Rattle.edm.specs.Packet.{Carries, connect, disconnect, dataEvent, request, response, atEvent, resend, start, unknown, identifiers, carried, Packet, shown}
+use Rattle.edm.specs.Packet.{Carries, connect, disconnect, data_event, request, response, at_event, resend, start, unknown, identifiers, carried, Packet, shown}
 use Rattle.edm.specs.Payload.{byte, word, read_connect, read_disconnect, read_data_event, read_request, of_response, of_event, read_payload}
 use Rattle.edm.specs.Frame.{delimited, length_field, payload, read_frame}
 use Rattle.edm.specs.Inside.{PacketInside}
@@ -64,10 +64,10 @@ module _ (n p : ℕ) (t : List ℕ) (h : p + length t ≤ n) where
   payload-inside : (k : Carries) → Held (read_payload k p t)
   payload-inside connect = connect_inside
   payload-inside disconnect = disconnect_inside
-  payload-inside dataEvent = data-inside
+  payload-inside data_event = data-inside
   payload-inside request = request_inside
   payload-inside response = of_response_lem (read_response p t) (response-inside n p t h)
-  payload-inside atEvent = of_event_lem (read_line w26 p t) (line_inside n w26 stays_26 p t h)
+  payload-inside at_event = of_event_lem (read_line w26 p t) (line_inside n w26 stays_26 p t h)
   payload-inside resend = tt
   payload-inside start = tt
   payload-inside unknown = tt

@@ -13,7 +13,7 @@ use Rattle.at.specs.Refusal.{OrRefused, good, refused}
 use Rattle.at.proofs.Answers.{text_in, number_at, text_at}
 use Rattle.at.proofs.ResponseAnswers.{response_in, response_back}
 use Rattle.at.proofs.W26Answers.{event_in, event_back}
-use Rattle.edm.specs.Packet.{identifiers, carried, Packet, connectEvent, disconnectEvent, dataPacket, dataCommand, at_request, at_response, at_packet, resendPacket, startPacket, packet_of, shown}
+use Rattle.edm.specs.Packet.{identifiers, carried, Packet, connect_event, disconnect_event, data_packet, data_command, at_request, at_response, at_packet, resend_packet, start_packet, packet_of, shown}
 use Rattle.edm.specs.Payload.{read_data_event}
 use Rattle.edm.specs.Frame.{read_frame}
 use Rattle.edm.specs.declared.Channel.{Channel}
@@ -30,15 +30,15 @@ channel vs = record { 0 = number_at vs 0 }
 
 -- the packet that a packet of the definitions was shown from
 abbrev packet_in : Packet → EdmPacket
-packet_in (connectEvent vs) = is.ConnectEvent (channel vs) (record { protocol = number_at vs 1; remote_addr = text_at vs 2; remote_port = number_at vs 3; local_addr = text_at vs 4; local_port = number_at vs 5 })
-packet_in (disconnectEvent vs) = is.DisconnectEvent (channel vs)
-packet_in (dataPacket vs) = is.DataEvent (channel vs) (text_at vs 1)
-packet_in (dataCommand vs) = is.DataCommand (channel vs) (text_at vs 1)
+packet_in (connect_event vs) = is.ConnectEvent (channel vs) (record { protocol = number_at vs 1; remote_addr = text_at vs 2; remote_port = number_at vs 3; local_addr = text_at vs 4; local_port = number_at vs 5 })
+packet_in (disconnect_event vs) = is.DisconnectEvent (channel vs)
+packet_in (data_packet vs) = is.DataEvent (channel vs) (text_at vs 1)
+packet_in (data_command vs) = is.DataCommand (channel vs) (text_at vs 1)
 packet_in (at_request v) = is.ATRequest (text_in v)
 packet_in (at_response r) = is.ATResponse (response_in r)
 packet_in (at_packet e) = is.ATEvent (event_in e)
-packet_in resendPacket = is.ResendConnectEvents
-packet_in startPacket = is.StartEvent
+packet_in resend_packet = is.ResendConnectEvents
+packet_in start_packet = is.StartEvent
 
 packet_back : (p : EdmPacket) → packet_in (packet_of p) ≡ p
 packet_back (is.ConnectEvent c e) = refl
@@ -66,11 +66,11 @@ pub one_read_lem : One 1 read.Kinds.ps read.Kinds.r read.Reads.Post (λ κs x s.
 one_read_lem κs a x y s t p q = shown_injective x y (p ∙ sym q)
 
 -- two frames, read by computation
-start_read : read_frame (hex "AA 00 02 00 71 55") ≡ good startPacket
+start_read : read_frame (hex "AA 00 02 00 71 55") ≡ good start_packet
 unfolding read_frame identifiers carried
 start_read = refl
 
-data_read : read_frame (hex "AA 00 04 00 36 03 41 55") ≡ good (dataPacket (num 3 ∷ place 6 1 ∷ []))
+data_read : read_frame (hex "AA 00 04 00 36 03 41 55") ≡ good (data_packet (num 3 ∷ place 6 1 ∷ []))
 unfolding read_frame identifiers carried read_data_event
 data_read = refl
 
@@ -79,13 +79,13 @@ module _ (κs : Lfts 1) (a : Dens κs read.Kinds.ps) (e : AtExit (ended_of 1 rea
   -- a reader that refuses everything, with whatever number
   pub refuses-not_all : (d : EdmPacketError) → a.0.now ≡ hex "AA 00 02 00 71 55" → read.Reads.Post κs a (answer.Refused d) e → ⊥
   refuses-not_all d s p =
-      let q : shown (answer.Refused d) ≡ good startPacket = (rw s at p) ∙ start_read in
+      let q : shown (answer.Refused d) ≡ good start_packet = (rw s at p) ∙ start_read in
       let z : ◌≡◌ {A = ℕ} 0 1 = cc in
       omega arith
 
   -- a reader that answers StartEvent to everything
   pub starts_not_all : a.0.now ≡ hex "AA 00 04 00 36 03 41 55" → read.Reads.Post κs a (answer.Packet is.StartEvent) e → ⊥
   starts_not_all s p =
-      let q : shown (answer.Packet is.StartEvent) ≡ good (dataPacket (num 3 ∷ place 6 1 ∷ [])) = (rw s at p) ∙ data_read in
+      let q : shown (answer.Packet is.StartEvent) ≡ good (data_packet (num 3 ∷ place 6 1 ∷ [])) = (rw s at p) ∙ data_read in
       let z : ◌≡◌ {A = ℕ} 0 1 = cc in
       omega arith

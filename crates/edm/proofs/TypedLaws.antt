@@ -16,7 +16,7 @@ use Rattle.at.specs.Typed.{TextAnswer, ResponseTyped}
 use Rattle.at.proofs.LineLaws.{drop-take}
 use Rattle.at.proofs.HeldLaws.{Stands, text_at_lem}
 use Rattle.at.proofs.TypedLaws.{trims_26, line_held, response-held}
-use Rattle.edm.specs.Packet.{Carries, connect, disconnect, dataEvent, request, response, atEvent, resend, start, unknown, identifiers, carried, Packet}
+use Rattle.edm.specs.Packet.{Carries, connect, disconnect, data_event, request, response, at_event, resend, start, unknown, identifiers, carried, Packet}
 use Rattle.edm.specs.Payload.{byte, word, read_connect, read_disconnect, read_data_event, read_request, of_response, of_event, read_payload}
 use Rattle.edm.specs.Frame.{delimited, length_field, payload, read_frame}
 use Rattle.edm.specs.Typed.{PacketTyped}
@@ -44,10 +44,10 @@ module _ (s : List ℕ) (p : ℕ) (t : List ℕ) (h : Stands s p t) where
   unfolding read_connect read_disconnect read_data_event read_request
   payload-typed connect = either Fits (ltb (length t) 2) tt (either Fits (eqb (byte t 1) 2) (either Fits (eqb (length t) 15) tt tt) tt)
   payload-typed disconnect = either Fits (eqb (length t) 1) tt tt
-  payload-typed dataEvent = either Fits (ltb (length t) 1) tt tt
+  payload-typed data_event = either Fits (ltb (length t) 1) tt tt
   payload-typed request = by_test Fits (utf8 t) (λ u. text_at_lem s p (length t) t refl (h, u)) (λ u. tt)
   payload-typed response = of_response_lem (read_response p t) (response-held s p t h)
-  payload-typed atEvent = of_event_lem (read_line w26 p t) (line_held s w26 trims_26 p t h)
+  payload-typed at_event = of_event_lem (read_line w26 p t) (line_held s w26 trims_26 p t h)
   payload-typed resend = tt
   payload-typed start = tt
   payload-typed unknown = tt

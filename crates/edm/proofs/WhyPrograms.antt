@@ -19,7 +19,7 @@ use Rattle.at.specs.W26.{w26}
 use Rattle.at.specs.Why.{LineNames, FieldUpToSeven}
 use Rattle.at.proofs.TableTests.{roomy-w26}
 use Rattle.at.proofs.WhyLaws.{CarriesNoField, response-plain, line_names, line_seven, nothing-seven}
-use Rattle.edm.specs.Packet.{Carries, connect, disconnect, dataEvent, request, response, atEvent, resend, start, unknown, identifiers, carried, Packet, shown}
+use Rattle.edm.specs.Packet.{Carries, connect, disconnect, data_event, request, response, at_event, resend, start, unknown, identifiers, carried, Packet, shown}
 use Rattle.edm.specs.Payload.{byte, word, read_connect, read_disconnect, read_data_event, read_request, of_response, of_event, read_payload}
 use Rattle.edm.specs.Frame.{delimited, length_field, payload, read_frame}
 use Rattle.edm.specs.Why.{PayloadNames, FrameNames}
@@ -34,15 +34,15 @@ of_response_lem (refused n) h = h
 
 -- what holds of answers that carry no field, and of that to a line, holds of a payload
 module _ (P : OrRefused Packet → Type 0) (plain : (o : OrRefused Packet) → CarriesNoField o → P o) (p : ℕ) (t : List ℕ) where
-  payload-by : (c : Carries) → (c ≡ atEvent → P (of_event (read_line w26 p t))) → P (read_payload c p t)
+  payload-by : (c : Carries) → (c ≡ at_event → P (of_event (read_line w26 p t))) → P (read_payload c p t)
   unfolding read_connect read_disconnect read_data_event read_request
   payload-by connect line =
       plain _ (either CarriesNoField (ltb (length t) 2) (λ c. c) (either CarriesNoField (eqb (byte t 1) 2) (either CarriesNoField (eqb (length t) 15) tt (λ c. c)) (λ c. c)))
   payload-by disconnect line = plain _ (either CarriesNoField (eqb (length t) 1) tt (λ c. c))
-  payload-by dataEvent line = plain _ (either CarriesNoField (ltb (length t) 1) (λ c. c) tt)
+  payload-by data_event line = plain _ (either CarriesNoField (ltb (length t) 1) (λ c. c) tt)
   payload-by request line = plain _ (either CarriesNoField (utf8 t) tt (λ c. c))
   payload-by response line = plain _ (of_response_lem (read_response p t) (response-plain p t))
-  payload-by atEvent line = line refl
+  payload-by at_event line = line refl
   payload-by resend line = plain _ tt
   payload-by start line = plain _ tt
   payload-by unknown line = plain _ (λ c. c)
@@ -62,7 +62,7 @@ module _ (contents : Carries) (p : ℕ) (t : List ℕ) where
   plain-names (good k) h = tt
   plain-names (refused n) h = λ c. absurd (h c)
 
-  event-names : contents ≡ atEvent → (a : OrRefused ReadEvent) → LineNames w26 p t a → PayloadNames contents p t (of_event a)
+  event-names : contents ≡ at_event → (a : OrRefused ReadEvent) → LineNames w26 p t a → PayloadNames contents p t (of_event a)
   event-names e (good (event_to d past)) h = tt
   event-names e (refused n) h = λ c. (e, h c)
 

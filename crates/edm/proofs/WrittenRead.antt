@@ -14,7 +14,7 @@ use Rattle.text.proofs.Utf8Joined.{utf8_append, utf8-plain, utf8_nil}
 use Rattle.at.specs.Event.{num, place}
 use Rattle.at.specs.declared.Text.{Text}
 use Rattle.at.specs.Refusal.{good}
-use Rattle.edm.specs.Packet.{identifiers, carried, dataPacket, at_request, resendPacket}
+use Rattle.edm.specs.Packet.{identifiers, carried, data_packet, at_request, resend_packet}
 use Rattle.edm.specs.Payload.{byte, word, read_payload, read_data_event, read_request}
 use Rattle.edm.specs.Frame.{delimited, length_field, payload, read_frame}
 use Rattle.edm.specs.Command.{frame, command, request_of, to_write}
@@ -49,7 +49,7 @@ module _ (id : ℕ) (t : List ℕ) where
       reads s t id (omega arith) (marked s front refl (omega arith) refl) p (omega arith) (omega arith)
 
 -- the three commands
-pub read_data_lem : (c : ℕ) (d : List ℕ) → length d ≤ 4092 → read_frame (frame 0x36 (c ∷ d)) ≡ good (dataPacket (num c ∷ place 6 (length d) ∷ []))
+pub read_data_lem : (c : ℕ) (d : List ℕ) → length d ≤ 4092 → read_frame (frame 0x36 (c ∷ d)) ≡ good (data_packet (num c ∷ place 6 (length d) ∷ []))
 unfolding identifiers carried read_data_event
 read_data_lem c d h =
     let l : length (c ∷ d) - 1 ≡ length d = omega arith in
@@ -62,14 +62,14 @@ read_request_lem t h u =
     let v = utf8_append t (13 ∷ []) u (utf8-plain 13 [] (omega arith) utf8_nil) in
     read_frame_lem 0x44 (t ++ 13 ∷ []) (omega arith) ∙ rw (v, l)
 
-pub read_resend : read_frame (frame 0x56 []) ≡ good resendPacket
+pub read_resend : read_frame (frame 0x56 []) ≡ good resend_packet
 unfolding identifiers carried
 read_resend = read_frame_lem 0x56 [] (omega arith)
 
 -- and the same of the bytes that are written for a packet: what stands at the place that is read is what was given, a request's with its CR
 module _ (room : ℕ) (src f : List ℕ) where
   pub data_read_back : (c : Channel) (d : Text) → to_write room src (is.DataCommand c d) ≡ good f
-      → (read_frame f ≡ good (dataPacket (num c.0 ∷ place 6 d.len ∷ []))) × (part f 6 d.len ≡ part src d.start d.len)
+      → (read_frame f ≡ good (data_packet (num c.0 ∷ place 6 d.len ∷ []))) × (part f 6 d.len ≡ part src d.start d.len)
   unfolding frame part
   data_read_back c d e =
       let w = framed room src (is.DataCommand c d) f e in
@@ -97,7 +97,7 @@ module _ (room : ℕ) (src f : List ℕ) where
       let r = w.short in
       (rw g (read_request_lem u (omega arith) q.0 ∙ rw l), rw g (take_at (u ++ 13 ∷ []) (0x55 ∷ []) (t.len + 1) (omega arith)))
 
-  pub resend_read_back : to_write room src is.ResendConnectEvents ≡ good f → read_frame f ≡ good resendPacket
+  pub resend_read_back : to_write room src is.ResendConnectEvents ≡ good f → read_frame f ≡ good resend_packet
   resend_read_back e =
       let w = framed room src is.ResendConnectEvents f e in
       let g : f ≡ frame 0x56 [] = cc in

@@ -12,7 +12,7 @@ use Rattle.edm.specs.declared.FrameAnswer.TheVariants as answer
 
 -- what the payload of an identifier carries
 pub data Carries : Type 0 where
-  connect disconnect dataEvent request response atEvent resend start unknown : Carries
+  connect disconnect data_event request response at_event resend start unknown : Carries
 
 pub data Identifier : Type 0 where
   ◌carries◌ : ℕ → Carries → Identifier
@@ -23,11 +23,11 @@ unfoldable pub identifiers : List Identifier
 identifiers =
     (0x0011 carries connect)
     ∷ (0x0021 carries disconnect)
-    ∷ (0x0031 carries dataEvent)
-    ∷ (0x0036 carries dataEvent)
+    ∷ (0x0031 carries data_event)
+    ∷ (0x0036 carries data_event)
     ∷ (0x0044 carries request)
     ∷ (0x0045 carries response)
-    ∷ (0x0041 carries atEvent)
+    ∷ (0x0041 carries at_event)
     ∷ (0x0056 carries resend)
     ∷ (0x0071 carries start)
     ∷ []
@@ -38,22 +38,22 @@ carried ((i carries c) ∷ rest) id = cond (eqb id i) c (carried rest id)
 
 -- a packet: its kind and its contents, in the order of the layout. A text, data or an address is a place
 pub data Packet : Type 0 where
-  connectEvent disconnectEvent dataPacket dataCommand : List Value → Packet
+  connect_event disconnect_event data_packet data_command : List Value → Packet
   at_request : Value → Packet
   at_response : Response → Packet
   at_packet : Event → Packet
-  resendPacket startPacket : Packet
+  resend_packet start_packet : Packet
 
 abbrev pub packet_of : EdmPacket → Packet
-packet_of (is.ConnectEvent c e) = connectEvent (num c.0 ∷ num e.protocol ∷ at e.remote_addr ∷ num e.remote_port ∷ at e.local_addr ∷ num e.local_port ∷ [])
-packet_of (is.DisconnectEvent c) = disconnectEvent (num c.0 ∷ [])
-packet_of (is.DataEvent c d) = dataPacket (num c.0 ∷ at d ∷ [])
-packet_of (is.DataCommand c d) = dataCommand (num c.0 ∷ at d ∷ [])
+packet_of (is.ConnectEvent c e) = connect_event (num c.0 ∷ num e.protocol ∷ at e.remote_addr ∷ num e.remote_port ∷ at e.local_addr ∷ num e.local_port ∷ [])
+packet_of (is.DisconnectEvent c) = disconnect_event (num c.0 ∷ [])
+packet_of (is.DataEvent c d) = data_packet (num c.0 ∷ at d ∷ [])
+packet_of (is.DataCommand c d) = data_command (num c.0 ∷ at d ∷ [])
 packet_of (is.ATRequest t) = at_request (at t)
 packet_of (is.ATResponse r) = at_response (response_of r)
 packet_of (is.ATEvent e) = at_packet (event_of e)
-packet_of is.ResendConnectEvents = resendPacket
-packet_of is.StartEvent = startPacket
+packet_of is.ResendConnectEvents = resend_packet
+packet_of is.StartEvent = start_packet
 
 abbrev pub shown : FrameAnswer → OrRefused Packet
 shown (answer.Packet p) = good (packet_of p)

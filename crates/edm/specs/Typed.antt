@@ -4,7 +4,7 @@ use Rattle.std.specs.Prelude.{ℕ, List, [], ◌∷◌}
 use Rattle.at.specs.Event.{Value, num, place}
 use Rattle.at.specs.W26.{table}
 use Rattle.at.specs.Typed.{TextAt, TextOf, ResponseTyped}
-use Rattle.edm.specs.Packet.{Packet, connectEvent, disconnectEvent, dataPacket, dataCommand, at_request, at_response, at_packet, resendPacket, startPacket}
+use Rattle.edm.specs.Packet.{Packet, connect_event, disconnect_event, data_packet, data_command, at_request, at_response, at_packet, resend_packet, start_packet}
 
 -- a part of a layout: a number, or bytes, whatever they are
 pub data Part : Type 0 where
@@ -35,12 +35,12 @@ IsText s (place p n) = TextAt s p n
 
 -- a packet that was read from the frame s
 abbrev pub PacketTyped : List ℕ → Packet → Type 0
-PacketTyped s (connectEvent vs) = LaidOut connect_layout vs
-PacketTyped s (disconnectEvent vs) = LaidOut (number ∷ []) vs
-PacketTyped s (dataPacket vs) = LaidOut data_layout vs
-PacketTyped s (dataCommand vs) = LaidOut data_layout vs
+PacketTyped s (connect_event vs) = LaidOut connect_layout vs
+PacketTyped s (disconnect_event vs) = LaidOut (number ∷ []) vs
+PacketTyped s (data_packet vs) = LaidOut data_layout vs
+PacketTyped s (data_command vs) = LaidOut data_layout vs
 PacketTyped s (at_request v) = IsText s v
 PacketTyped s (at_response r) = ResponseTyped s r
 PacketTyped s (at_packet e) = TextOf table s e
-PacketTyped s resendPacket = Unit {0}
-PacketTyped s startPacket = Unit {0}
+PacketTyped s resend_packet = Unit {0}
+PacketTyped s start_packet = Unit {0}

@@ -14,14 +14,14 @@ use Rattle.text.specs.Find.{first_of}
 use Rattle.text.specs.Utf8.{valid_up_to}
 use Rattle.text.proofs.Bools.{and_left, and_right}
 use Rattle.at.specs.Refusal.{number_of}
-use Rattle.at.specs.Event.{Kind, bits, text, ipType, btType, protocol, reason, Row, name_of, kinds_of}
+use Rattle.at.specs.Event.{Kind, bits, text, ip_type, bt_type, protocol, reason, Row, name_of, kinds_of}
 use Rattle.at.specs.Line.{Radio, before, rows_named, fields_after}
 use Rattle.at.specs.Binary.{fields_up_to, prefix}
 use Rattle.at.specs.W26 as w26
 use Rattle.at.specs.W36 as w36
 use Rattle.at.proofs.InsideLaws.{FieldsInside, after-inside, up_to_inside, Stays, stays_26}
 use Rattle.at.proofs.RowsLaws.{Each, each_named}
-use Rattle.edm.specs.Packet.{Carries, connect, disconnect, dataEvent, request, response, atEvent, resend, start, unknown}
+use Rattle.edm.specs.Packet.{Carries, connect, disconnect, data_event, request, response, at_event, resend, start, unknown}
 use Rattle.edm.specs.Frame.{payload}
 use Rattle.checks.specs.Check.{Check, ◌needs◌else◌at◌, first_broken, broken}
 use Rattle.checks.specs.Number.{number_checks}
@@ -97,8 +97,8 @@ module _ (m i p : ℕ) (h : i ≤ 9) (l : p ≤ m) where
   form-short : (k : Kind) (b : List ℕ) → EachShort m (form_checks i k p b)
   form-short (bits w) b = number_short w b
   form-short text b = tt
-  form-short ipType b = ((field_room 23 i h, omega arith, l), tt)
-  form-short btType b = ((field_room 23 i h, omega arith, l), tt)
+  form-short ip_type b = ((field_room 23 i h, omega arith, l), tt)
+  form-short bt_type b = ((field_room 23 i h, omega arith, l), tt)
   form-short protocol b = ((field_room 19 i h, omega arith, l), ((field_room 20 i h, omega arith, l), ((field_room 21 i h, omega arith, l), ((field_room 22 i h, omega arith, l), tt))))
   form-short reason b = ((field_room 19 i h, omega arith, l), ((field_room 20 i h, omega arith, l), ((field_room 21 i h, omega arith, l), ((field_room 22 i h, omega arith, l), tt))))
 
@@ -219,10 +219,10 @@ payload-short connect t =
     let m = 7 + length t in
     (plain m 7 _ 2 (omega arith) (omega arith), (plain m 8 _ 5 (omega arith) (omega arith), (plain m 9 _ 6 (omega arith) (omega arith), tt)))
 payload-short disconnect t = (plain (7 + length t) 10 _ 7 (omega arith) (omega arith), tt)
-payload-short dataEvent t = (plain (7 + length t) 11 _ 2 (omega arith) (omega arith), tt)
+payload-short data_event t = (plain (7 + length t) 11 _ 2 (omega arith) (omega arith), tt)
 payload-short request t = (plain (7 + length t) 12 _ 8 (omega arith) (omega (arith, valid_le t)), tt)
 payload-short response t = response-short 5 t
-payload-short atEvent t = line_short w26.w26 sevens.0 stays_26 5 t
+payload-short at_event t = line_short w26.w26 sevens.0 stays_26 5 t
 payload-short resend t = tt
 payload-short start t = tt
 payload-short unknown t = tt

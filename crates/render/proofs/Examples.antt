@@ -9,7 +9,7 @@ use Rattle.at.specs.Event.{Value, num, place, event}
 use Rattle.at.specs.W26.{UUWLD, UUETHLU}
 use Rattle.at.specs.W36.{UESOC, UEWAPSA}
 use Rattle.at.specs.Walk.{event_then, then_end, then_refused}
-use Rattle.edm.specs.Packet.{identifiers, carried, dataPacket, connectEvent, at_packet}
+use Rattle.edm.specs.Packet.{identifiers, carried, data_packet, connect_event, at_packet}
 use Rattle.checks.specs.Part.{◌from◌for◌}
 use Rattle.checks.specs.Explained.{accepted, refused_by, none}
 use Rattle.checks.specs.declared.CheckName.TheVariants.{FieldThere}
@@ -30,16 +30,16 @@ use Rattle.render.specs.Range.{more_line, scan_line}
 use Rattle.render.specs.Label.{check_names, part_names}
 use Rattle.render.specs.Explained.{parts_line, explained_line, binary_line}
 
-pub data-event : frame_line (hex "AA 00 04 00 36 03 41 55") (good (dataPacket (num 3 ∷ place 6 1 ∷ []))) ≡ bytes "DataEvent 3 41"
+pub data-event : frame_line (hex "AA 00 04 00 36 03 41 55") (good (data_packet (num 3 ∷ place 6 1 ∷ []))) ≡ bytes "DataEvent 3 41"
 unfolding values_line number_word decimal digits_of pairs_of part
 data-event = refl
 
 -- the kind of a connect event is named after the channel
-pub connect_event : frame_line (hex "AA 00 11 00 11 03 02 06 C0 A8 00 01 1F 90 0A 00 00 02 04 D2 55")
-    (good (connectEvent (num 3 ∷ num 6 ∷ place 8 4 ∷ num 8080 ∷ place 14 4 ∷ num 1234 ∷ [])))
+pub connect_event_lem : frame_line (hex "AA 00 11 00 11 03 02 06 C0 A8 00 01 1F 90 0A 00 00 02 04 D2 55")
+    (good (connect_event (num 3 ∷ num 6 ∷ place 8 4 ∷ num 8080 ∷ place 14 4 ∷ num 1234 ∷ [])))
     ≡ bytes "ConnectEvent 3 ConnectEventIPv4 6 c0a80001 8080 0a000002 1234"
 unfolding values_line number_word decimal digits_of pairs_of part
-connect_event = refl
+connect_event_lem = refl
 
 pub link_up : frame_line [] (good (at_packet (event UUETHLU []))) ≡ bytes "ATEvent EthernetLinkUp"
 unfolding values_line cases26 case_of same

@@ -13,7 +13,7 @@ use Rattle.at.specs.Event.{num, place, ReadEvent, event_to}
 use Rattle.at.specs.Line.{read_line}
 use Rattle.at.specs.Response.{Response, read_response}
 use Rattle.at.specs.W26.{w26}
-use Rattle.edm.specs.Packet.{Carries, connect, disconnect, dataEvent, request, response, atEvent, resend, start, unknown, identifiers, carried, connectEvent, disconnectEvent, dataPacket, at_request}
+use Rattle.edm.specs.Packet.{Carries, connect, disconnect, data_event, request, response, at_event, resend, start, unknown, identifiers, carried, connect_event, disconnect_event, data_packet, at_request}
 use Rattle.edm.specs.Payload.{byte, word, read_connect, read_disconnect, read_data_event, read_request, of_response, of_event, read_payload}
 use Rattle.edm.specs.Frame.{delimited, length_field, payload, read_frame}
 use Rattle.render.specs.Words.{values_line}
@@ -55,7 +55,7 @@ module _ (src : List ℕ) (p : ℕ) (t : List ℕ) (h : Bytes t) where
   connect_room = go (ltb (length t) 2) (eqb (byte t 1) 2) (eqb (length t) 15)
     where
       go : (a b c : Bool)
-          → length (frame_line src (cond a (refused (no 2)) (cond b (cond c (good (connectEvent (num (byte t 0) ∷ num (byte t 2) ∷ place (p + 3) 4 ∷ num (word t 7) ∷ place (p + 9) 4 ∷ num (word t 13) ∷ []))) (refused (no 6))) (refused (no 5)))))
+          → length (frame_line src (cond a (refused (no 2)) (cond b (cond c (good (connect_event (num (byte t 0) ∷ num (byte t 2) ∷ place (p + 3) 4 ∷ num (word t 7) ∷ place (p + 9) 4 ∷ num (word t 13) ∷ []))) (refused (no 6))) (refused (no 5)))))
           ≤ 2 * length t + 150
       go true b c = omega (arith, frame-refused-room 2)
       go false false c = omega (arith, frame-refused-room 5)
@@ -76,7 +76,7 @@ module _ (src : List ℕ) (p : ℕ) (t : List ℕ) (h : Bytes t) where
   unfolding read_disconnect
   disconnect_room = go (eqb (length t) 1)
     where
-      go : (k : Bool) → length (frame_line src (cond k (good (disconnectEvent (num (byte t 0) ∷ []))) (refused (no 7)))) ≤ 2 * length t + 150
+      go : (k : Bool) → length (frame_line src (cond k (good (disconnect_event (num (byte t 0) ∷ []))) (refused (no 7)))) ≤ 2 * length t + 150
       go true = omega (arith, data-number src 2 (byte t 0) [] (omega (arith, h 0)), data-none src)
       go false = omega (arith, frame-refused-room 7)
 
@@ -84,7 +84,7 @@ module _ (src : List ℕ) (p : ℕ) (t : List ℕ) (h : Bytes t) where
   unfolding read_data_event
   data-room = go (ltb (length t) 1)
     where
-      go : (k : Bool) → length (frame_line src (cond k (refused (no 2)) (good (dataPacket (num (byte t 0) ∷ place (p + 1) (length t - 1) ∷ []))))) ≤ 2 * length t + 150
+      go : (k : Bool) → length (frame_line src (cond k (refused (no 2)) (good (data_packet (num (byte t 0) ∷ place (p + 1) (length t - 1) ∷ []))))) ≤ 2 * length t + 150
       go true = omega (arith, frame-refused-room 2)
       go false =
           let d = place (p + 1) (length t - 1) ∷ [] in
@@ -101,10 +101,10 @@ module _ (src : List ℕ) (p : ℕ) (t : List ℕ) (h : Bytes t) where
   payload-room : (c : Carries) → length (frame_line src (read_payload c p t)) ≤ 2 * length t + 150
   payload-room connect = connect_room
   payload-room disconnect = disconnect_room
-  payload-room dataEvent = data-room
+  payload-room data_event = data-room
   payload-room request = request_room
   payload-room response = omega (arith, of_response_lem src (read_response p t), response-room-at src p t)
-  payload-room atEvent = omega (arith, of_event_lem src (read_line w26 p t), answer-room cases26 w26 cheap_26 spans_26 src p t)
+  payload-room at_event = omega (arith, of_event_lem src (read_line w26 p t), answer-room cases26 w26 cheap_26 spans_26 src p t)
   payload-room resend = omega arith
   payload-room start = omega arith
   payload-room unknown = omega (arith, frame-refused-room 4)

@@ -5,7 +5,7 @@ use mathlib.Core.Path.{◌≡◌, refl}
 use mathlib.Core.List.{List, [], ◌∷◌, ◌++◌, map}
 use lib.Dec.{eqb}
 use Rattle.text.specs.Bytes.{bytes}
-use Rattle.at.specs.Event.{Kind, bits, text, ipType, btType, protocol, reason, Row, kinds_of, Value, num, place}
+use Rattle.at.specs.Event.{Kind, bits, text, ip_type, bt_type, protocol, reason, Row, kinds_of, Value, num, place}
 use Rattle.at.specs.Table.{letter_of, letters_of}
 use Rattle.render.specs.Words.{number_word, word_of, spaced_word, values_line}
 use Rattle.render.specs.Steps.{kind_of, kinds_in}
@@ -19,8 +19,8 @@ letter_number (bits w) n = go (eqb w 8) (eqb w 16)
     go false true = refl
     go false false = refl
 letter_number text n = refl
-letter_number ipType n = refl
-letter_number btType n = refl
+letter_number ip_type n = refl
+letter_number bt_type n = refl
 letter_number protocol n = refl
 letter_number reason n = refl
 
@@ -39,8 +39,8 @@ letter_spaced (bits w) src v = go (eqb w 8) (eqb w 16) (letter_word (bits w) src
     go false true e = rw e
     go false false e = rw e
 letter_spaced text src v = refl
-letter_spaced ipType src v = refl
-letter_spaced btType src v = refl
+letter_spaced ip_type src v = refl
+letter_spaced bt_type src v = refl
 letter_spaced protocol src v = refl
 letter_spaced reason src v = refl
 

@@ -19,7 +19,7 @@ use Rattle.at.specs.Inside.{IfGood}
 use Rattle.at.specs.Typed.{OfKinds, OfKindsThenData, Listed, ReadTextOf, ReadBinaryOf, TriedTyped}
 use Rattle.at.specs.W26 as w26
 use Rattle.at.specs.W36 as w36
-use Rattle.edm.specs.Packet.{Packet, connectEvent, disconnectEvent, dataPacket, dataCommand, at_request, at_response, at_packet, resendPacket, startPacket}
+use Rattle.edm.specs.Packet.{Packet, connect_event, disconnect_event, data_packet, data_command, at_request, at_response, at_packet, resend_packet, start_packet}
 use Rattle.edm.specs.Typed.{PacketTyped}
 use Rattle.checks.specs.Slot.{field_slots, marked_slots, marked_tail, name_slot, shape_slots, end_slot, slots_of}
 use Rattle.checks.specs.Part.{Piece, piece, passed, cut, joined, placed, ◌from◌for◌, response_shape, packet_shape, line_shape, binary_shape, parts_by, frame_parts}
@@ -216,15 +216,15 @@ module _ (s : List ℕ) (l : length s ≤ 131072) where
   response_parts_room (refused n) = none-room
 
   packet-few : (k : Packet) → PacketTyped s k → Few (packet_shape k)
-  packet-few (connectEvent vs) h = tt
-  packet-few (disconnectEvent vs) h = tt
-  packet-few (dataPacket vs) h = tt
-  packet-few (dataCommand vs) h = tt
+  packet-few (connect_event vs) h = tt
+  packet-few (disconnect_event vs) h = tt
+  packet-few (data_packet vs) h = tt
+  packet-few (data_command vs) h = tt
   packet-few (at_request v) h = tt
   packet-few (at_response r) h = response-few 5 r
   packet-few (at_packet (event r vs)) h = omega (arith, listed-seven w26.table h.0.0 r sevens.0 h.0.1, kinds-counted s (kinds_of r) vs h.1)
-  packet-few resendPacket h = tt
-  packet-few startPacket h = tt
+  packet-few resend_packet h = tt
+  packet-few start_packet h = tt
 
   pub frame_parts_room : (a : OrRefused Packet) → IfGood (PacketTyped s) a → length (accepted_line (fields_in (frame_parts s) a)) ≤ 500
   unfolding frame_parts

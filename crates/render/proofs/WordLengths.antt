@@ -17,7 +17,7 @@ use Rattle.text.proofs.DecimalLaws.{decimal-one, decimal-more}
 use Rattle.text.proofs.Spelling.{read_exactly}
 use Rattle.at.specs.declared.FieldError.TheVariants.{NotListed}
 use Rattle.at.specs.Refusal.{no, invalid, good, refused}
-use Rattle.at.specs.Event.{Kind, bits, text, ipType, btType, protocol, reason, Value, num, place, listed, is_protocol, is_reason, read_field}
+use Rattle.at.specs.Event.{Kind, bits, text, ip_type, bt_type, protocol, reason, Value, num, place, listed, is_protocol, is_reason, read_field}
 use Rattle.render.specs.Refusal.{refusals, refused_line, frame_refused_line}
 use Rattle.render.specs.Words.{pairs_of, hex_of, Name, ◌is◌, name_in, is_ipv6, protocols, reasons, number_word, word_of, spaced_word, values_line}
 
@@ -84,8 +84,8 @@ place-within src p n = omega (arith, hex-within (part src p n), length-take n (d
 unfoldable pub extra : Kind → ℕ
 extra (bits w) = 0
 extra text = 0
-extra ipType = 0
-extra btType = 0
+extra ip_type = 0
+extra bt_type = 0
 extra protocol = 3
 extra reason = 15
 
@@ -103,15 +103,15 @@ word-within i (bits w) p b src v e =
     let r = listed-number i (λ n. true) (number w b) v e in
     rw r.2 (omega (arith, number_shorter w r.0 b r.1))
 word-within i text p b src v e = let f : v ≡ place p (length b) = cc in rw f (omega (arith, place-within src p (length b)))
-word-within i ipType p b src v e = go (same b (bytes "2")) (same b (bytes "3")) e
+word-within i ip_type p b src v e = go (same b (bytes "2")) (same b (bytes "3")) e
   where
-    go : (s t : Bool) → cond s (good (num 2)) (cond t (good (num 3)) (refused (no 13))) ≡ good v → length (word_of ipType src v) ≤ 2 * length b + 1 + 0
+    go : (s t : Bool) → cond s (good (num 2)) (cond t (good (num 3)) (refused (no 13))) ≡ good v → length (word_of ip_type src v) ≤ 2 * length b + 1 + 0
     go true t e = let f : v ≡ num 2 = cc in rw f (omega (arith, name_within 1 is_ipv6 refl 2))
     go false true e = let f : v ≡ num 3 = cc in rw f (omega (arith, name_within 1 is_ipv6 refl 3))
     go false false e = let z : ◌≡◌ {A = ℕ} 0 1 = cc in absurd (omega arith)
-word-within i btType p b src v e = go (same b (bytes "1")) refl e
+word-within i bt_type p b src v e = go (same b (bytes "1")) refl e
   where
-    go : (t : Bool) → same b (bytes "1") ≡ t → cond t (good (num 1)) (refused (no 13)) ≡ good v → length (word_of btType src v) ≤ 2 * length b + 1 + 0
+    go : (t : Bool) → same b (bytes "1") ≡ t → cond t (good (num 1)) (refused (no 13)) ≡ good v → length (word_of bt_type src v) ≤ 2 * length b + 1 + 0
     go true t e = let f : v ≡ num 1 = cc in rw f (omega (arith, decimal-within 0 1 (omega arith)))
     go false t e = let z : ◌≡◌ {A = ℕ} 0 1 = cc in absurd (omega arith)
 word-within i protocol p b src v e =
@@ -125,8 +125,8 @@ word-within i reason p b src v e =
 pub spaced_within : (i : ℕ) (k : Kind) (p : ℕ) (b src : List ℕ) (v : Value) → read_field i k p b ≡ good v → length (spaced_word k src v) ≤ 2 * suc (length b) + extra k
 spaced_within i (bits w) p b src v e = omega (arith, word-within i (bits w) p b src v e)
 spaced_within i text p b src v e = omega (arith, word-within i text p b src v e)
-spaced_within i ipType p b src v e = omega (arith, word-within i ipType p b src v e)
-spaced_within i btType p b src v e = omega arith
+spaced_within i ip_type p b src v e = omega (arith, word-within i ip_type p b src v e)
+spaced_within i bt_type p b src v e = omega arith
 spaced_within i protocol p b src v e = omega (arith, word-within i protocol p b src v e)
 spaced_within i reason p b src v e = omega (arith, word-within i reason p b src v e)
 

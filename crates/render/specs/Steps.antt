@@ -3,7 +3,7 @@ use Rattle.std.specs.Prelude.{ℕ, suc, ◌≡◌, List, [], ◌∷◌, ◌++◌
 use Prim.Native.Char.{code}
 use Prim.Native.String.{String}
 use Rattle.text.specs.Bytes.{bytes}
-use Rattle.at.specs.Event.{Kind, bits, text, ipType, btType, protocol, reason, Row}
+use Rattle.at.specs.Event.{Kind, bits, text, ip_type, bt_type, protocol, reason, Row}
 use Rattle.at.specs.TableSteps.{Tabled}
 use Rattle.render.specs.Words.{Name, ◌is◌}
 use Rattle.render.specs.Event.{Case, case_of}
@@ -26,8 +26,8 @@ pub record Cased (rows : List Row) (cases : List Case) (table names : List ℕ) 
 -- the kind of a letter; a number's width does not matter here
 unfoldable pub kind_of : ℕ → Kind
 kind_of letter =
-    cond (eqb letter (code "i")) ipType
-    (cond (eqb letter (code "t")) btType (cond (eqb letter (code "p")) protocol (cond (eqb letter (code "r")) reason (cond (eqb letter (code "s")) text (bits 16)))))
+    cond (eqb letter (code "i")) ip_type
+    (cond (eqb letter (code "t")) bt_type (cond (eqb letter (code "p")) protocol (cond (eqb letter (code "r")) reason (cond (eqb letter (code "s")) text (bits 16)))))
 
 abbrev pub kinds_in : List ℕ → List Kind
 kinds_in letters = map kind_of letters

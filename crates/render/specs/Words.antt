@@ -4,7 +4,7 @@ use Rattle.std.specs.Prelude.{ℕ, ◌/◌, ◌%◌, List, [], ◌∷◌, ◌++�
 use Prim.Native.String.{String}
 use Rattle.text.specs.Bytes.{bytes, part}
 use Rattle.text.specs.Decimal.{decimal}
-use Rattle.at.specs.Event.{Kind, bits, text, ipType, btType, protocol, reason, Value, num, place}
+use Rattle.at.specs.Event.{Kind, bits, text, ip_type, bt_type, protocol, reason, Value, num, place}
 
 -- a digit below 16
 abbrev pub digit : ℕ → ℕ
@@ -49,8 +49,8 @@ reasons =
 unfoldable pub number_word : Kind → ℕ → List ℕ
 number_word (bits w) n = decimal n
 number_word text n = decimal n
-number_word ipType n = name_in is_ipv6 n
-number_word btType n = decimal n
+number_word ip_type n = name_in is_ipv6 n
+number_word bt_type n = decimal n
 number_word protocol n = name_in protocols n
 number_word reason n = name_in reasons n
 
@@ -63,8 +63,8 @@ word_of k src (place start len) = hex_of (part src start len)
 abbrev pub spaced_word : Kind → List ℕ → Value → List ℕ
 spaced_word (bits w) src v = bytes " " ++ word_of (bits w) src v
 spaced_word text src v = bytes " " ++ word_of text src v
-spaced_word ipType src v = bytes " " ++ word_of ipType src v
-spaced_word btType src v = []
+spaced_word ip_type src v = bytes " " ++ word_of ip_type src v
+spaced_word bt_type src v = []
 spaced_word protocol src v = bytes " " ++ word_of protocol src v
 spaced_word reason src v = bytes " " ++ word_of reason src v
 

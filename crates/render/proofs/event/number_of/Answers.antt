@@ -4,7 +4,7 @@ use mathlib.Core.Path.{◌≡◌, refl}
 use lib.Dec.{eqb}
 use borrow.Author.Tests.{ne_eqb}
 use Rattle.text.specs.Decimal.{decimal}
-use Rattle.at.specs.Event.{bits, text, btType}
+use Rattle.at.specs.Event.{bits, text, bt_type}
 use Rattle.render.specs.Words.{is_ipv6, protocols, reasons, number_word}
 use Rattle.render.specs.Steps.{spelled, kind_of}
 use Rattle.render.proofs.event.number_of.Goals as goal
@@ -15,7 +15,7 @@ plain : (c n : ℕ) → eqb c 105 ≡ false → eqb c 112 ≡ false → eqb c 11
 unfolding kind_of number_word
 plain c n i p r = rw (i, p, r) (go (eqb c 116) (eqb c 115))
   where
-    go : (t s : Bool) → number_word (cond t btType (cond s text (bits 16))) n ≡ decimal n
+    go : (t s : Bool) → number_word (cond t bt_type (cond s text (bits 16))) n ≡ decimal n
     go true s = refl
     go false true = refl
     go false false = refl

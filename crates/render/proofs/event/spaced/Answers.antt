@@ -5,7 +5,7 @@ use mathlib.Core.List.{List, ◌++◌}
 use lib.Dec.{eqb}
 use borrow.Author.Tests.{ne_eqb}
 use Rattle.text.specs.Bytes.{bytes}
-use Rattle.at.specs.Event.{bits, text, ipType, protocol, reason, Value}
+use Rattle.at.specs.Event.{bits, text, ip_type, protocol, reason, Value}
 use Rattle.render.specs.Words.{word_of, spaced_word}
 use Rattle.render.specs.Steps.{kind_of}
 use Rattle.render.proofs.PrintLaws.{prints-none, prints_then}
@@ -17,7 +17,7 @@ unfolding kind_of
 other c src v t = rw t (go (eqb c 105) (eqb c 112) (eqb c 114) (eqb c 115))
   where
     go : (i p r s : Bool)
-        → let k = cond i ipType (cond p protocol (cond r reason (cond s text (bits 16)))) in spaced_word k src v ≡ bytes " " ++ word_of k src v
+        → let k = cond i ip_type (cond p protocol (cond r reason (cond s text (bits 16)))) in spaced_word k src v ≡ bytes " " ++ word_of k src v
     go true p r s = refl
     go false true r s = refl
     go false false true s = refl
