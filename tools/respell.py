@@ -27,7 +27,7 @@ def declared(path):
     found = set()
     for line in read(path).split("\n"):
         head = re.match(rf"\s*(?:(?:abbrev|unfoldable|pub)\s+)*((?:{NAME}\s+)+):\s", line)
-        if head:
+        if head and not head[1].startswith("let "):
             found.update(head[1].split())
         if line.startswith("use "):
             found.update(re.findall(rf" as ({NAME})", line))
