@@ -22,13 +22,15 @@ def read(path):
         return file.read()
 
 
-def declared(path):
-    """Names that a file declares: definitions, lemmas, constructors, fields, and those after `as` in its imports."""
+def declared(path, together=True):
+    """Names that a file declares: definitions, lemmas, constructors, fields, and those after `as` in its imports; those too that a line
+    declares together, where they are wanted."""
     found = set()
     for line in read(path).split("\n"):
         head = re.match(rf"\s*(?:(?:abbrev|unfoldable|pub)\s+)*((?:{NAME}\s+)+):\s", line)
-        if head and not head[1].startswith("let "):
-            found.update(head[1].split())
+        words = head[1].split() if head else []
+        if len(words) == 1 or (together and words[:1] != ["let"]):
+            found.update(words)
         if line.startswith("use "):
             found.update(re.findall(rf" as ({NAME})", line))
     return found
@@ -54,7 +56,7 @@ def library_names():
 def renamed():
     names, specs = set(), set()
     for path in SPECS:
-        specs |= declared(path)
+        specs |= declared(path, together=False)
     for path in SPECS + LAWS:
         names |= declared(path)
     library = library_names()
