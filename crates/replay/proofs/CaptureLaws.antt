@@ -1,5 +1,5 @@
 -- Laws of the line of a capture: a record and then the records from there on, or how it ends.
-use Rattle.std.proofs.Common.{◌≡◌, ℕ, ◌+◌, ◌<◌, ◌≤◌, Bool, List, ◌++◌, length, sym, arith}
+use Rattle.std.proofs.Common.{◌≡◌, ℕ, ◌<◌, ◌≤◌, Bool, List, ◌++◌, length, sym, arith}
 use Rattle.text.specs.Bytes.{bytes}
 use Rattle.pcap.specs.Read.{head, no_head, read_header, found, end, refusal, read_record}
 use Rattle.pcap.specs.File.{run_at, read_file}

@@ -1,6 +1,5 @@
 use Rattle.render.specs.Refusal.{refused_line}
 use Rattle.replay.proofs.ReplyLaws.{written_line_lem}
-use Rattle.std.proofs.Common.{rules}
 use Rattle.replay.proofs.answer.again26.Goals as goal
 
 -- `again26` meets its contract.

@@ -1,5 +1,4 @@
 use Rattle.at.specs.Walk.{read_either}
-use Rattle.std.proofs.Common.{rules}
 use Rattle.replay.proofs.answer.again36.Goals as goal
 
 -- `again36` meets its contract.

@@ -1,4 +1,3 @@
-use Rattle.std.proofs.Common.{rules}
 use Rattle.replay.proofs.answer.again36_text.Goals as goal
 
 -- `again36_text` meets its contract.

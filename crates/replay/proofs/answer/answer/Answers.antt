@@ -1,4 +1,4 @@
-use Rattle.std.proofs.Common.{arith, length-drop, rules}
+use Rattle.std.proofs.Common.{arith, length-drop}
 use Rattle.text.specs.Bytes.{part}
 use Rattle.text.proofs.BytesLaws.{part-rest}
 use Rattle.replay.specs.Reply.{short_reply}

@@ -1,6 +1,5 @@
 use Rattle.render.specs.Refusal.{frame_refused_line}
 use Rattle.replay.proofs.ReplyLaws.{written_line_lem}
-use Rattle.std.proofs.Common.{rules}
 use Rattle.replay.proofs.answer.command.Goals as goal
 
 -- `command` meets its contract.

@@ -1,5 +1,4 @@
 use Rattle.render.proofs.ExplainedLaws.{explains_line_lem, explains_binary_line_lem}
-use Rattle.std.proofs.Common.{rules}
 use Rattle.replay.proofs.answer.explain.Goals as goal
 
 -- `explain` meets its contract.

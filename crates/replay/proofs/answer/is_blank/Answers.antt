@@ -1,6 +1,5 @@
-use Rattle.std.proofs.Common.{◌≡◌, ◌-◌, ◌≤◌, length, drop, sym, refl, ◌∙◌, inl, inr, arith, rules}
-use Rattle.text.specs.Bytes.{every}
-use Rattle.replay.proofs.ReplyLaws.{is_blank, blank_end, blank_more, blank_not}
+use Rattle.std.proofs.Common.{sym, refl, ◌∙◌, inl, inr, arith}
+use Rattle.replay.proofs.ReplyLaws.{blank_end, blank_more, blank_not}
 use Rattle.replay.proofs.answer.is_blank.Goals as goal
 
 pub loop-i-init : goal.loop-i-init

@@ -1,6 +1,6 @@
-use Rattle.std.proofs.Common.{◌≡◌, ◌-◌, ◌≤◌, length, drop, sym, refl, ◌∙◌, inl, inr, arith, rules}
+use Rattle.std.proofs.Common.{◌≡◌, ◌-◌, ◌≤◌, length, drop}
 use Rattle.text.specs.Bytes.{every}
-use Rattle.replay.proofs.ReplyLaws.{is_blank, blank_end, blank_more, blank_not}
+use Rattle.replay.proofs.ReplyLaws.{is_blank}
 use Rattle.replay.proofs.answer.is_blank.Given as goal
 
 -- `is_blank` meets its contract: the bytes from `i` on decide.

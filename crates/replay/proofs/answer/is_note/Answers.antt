@@ -1,5 +1,4 @@
 use Rattle.replay.specs.Reply.{is_note}
-use Rattle.std.proofs.Common.{rules}
 use Rattle.replay.proofs.answer.is_note.Goals as goal
 
 -- `is_note` meets its contract.

@@ -1,4 +1,3 @@
-use Rattle.std.proofs.Common.{rules}
 use Rattle.replay.proofs.answer.read.Goals as goal
 
 -- `read` meets its contract.

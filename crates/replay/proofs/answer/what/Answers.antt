@@ -1,5 +1,4 @@
 use Rattle.render.proofs.PrintLaws.{prints_then}
-use Rattle.std.proofs.Common.{rules}
 use Rattle.replay.proofs.answer.what.Goals as goal
 
 -- `what` meets its contract.

@@ -1,4 +1,3 @@
-use Rattle.std.proofs.Common.{rules}
 use Rattle.replay.proofs.answer.write.Goals as goal
 
 -- `write` meets its contract.

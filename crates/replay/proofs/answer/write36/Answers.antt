@@ -1,6 +1,5 @@
 use Rattle.render.specs.Refusal.{refused_line}
 use Rattle.replay.proofs.ReplyLaws.{written_line_lem}
-use Rattle.std.proofs.Common.{rules}
 use Rattle.replay.proofs.answer.write36.Goals as goal
 
 -- `write36` meets its contract.

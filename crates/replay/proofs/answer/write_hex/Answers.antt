@@ -1,4 +1,4 @@
-use Rattle.std.proofs.Common.{length, sym, ◌∙◌, arith, rules}
+use Rattle.std.proofs.Common.{length, sym, ◌∙◌, arith}
 use Rattle.lines.specs.Hex.{bytes_in}
 use Rattle.lines.proofs.DecodedLaws.{bytes-spelt, decoded_bytes, decoded_no-hex, decoded_no-room}
 use Rattle.replay.proofs.answer.write_hex.Goals as goal

@@ -1,4 +1,4 @@
-use Rattle.std.proofs.Common.{◌≡◌, ◌-◌, length, take, drop, ◌∙◌, arith, length-take-le, rules, le-leb}
+use Rattle.std.proofs.Common.{◌≡◌, ◌-◌, length, take, drop, ◌∙◌, arith, length-take-le, le-leb}
 use borrow.Author.Tests.{lt-leb}
 use Rattle.replay.proofs.answer.write_within.Goals as goal
 

@@ -1,4 +1,4 @@
-use Rattle.std.proofs.Common.{sym, ap, ◌∙◌, rules}
+use Rattle.std.proofs.Common.{sym, ap, ◌∙◌}
 use Rattle.pcap.specs.Refusal.{refusal_no}
 use Rattle.pcap.specs.Read.{header_shown}
 use Rattle.replay.proofs.CaptureLaws.{file_headed, file_unheaded}

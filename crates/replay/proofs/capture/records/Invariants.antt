@@ -1,11 +1,7 @@
-use Rattle.std.proofs.Common.{◌≡◌, ℕ, ◌-◌, List, length, sym, refl, ap, ◌∙◌, arith, rules}
-use Rattle.pcap.specs.Refusal.{refusal_no}
-use Rattle.pcap.specs.Read.{record_shown}
+use Rattle.std.proofs.Common.{◌≡◌, ℕ, ◌-◌, List, length}
 use Rattle.pcap.specs.File.{run_at}
 use Rattle.render.specs.Print.{Prints}
 use Rattle.render.specs.Capture.{run_line}
-use Rattle.render.proofs.PrintLaws.{prints_then}
-use Rattle.replay.proofs.CaptureLaws.{run-found, run-ended, run-refused}
 use Rattle.replay.proofs.capture.records.Given as goal
 
 -- `records` meets its contract: what completes the records from a place on completes the whole. It ends, since each record leads to a later place, and

@@ -1,4 +1,4 @@
-use Rattle.std.proofs.Common.{ℕ, replicate, rules}
+use Rattle.std.proofs.Common.{ℕ, replicate}
 use lib.ListN.{length-replicate}
 use Rattle.replay.proofs.DumpLaws.{dump_listed, dump_refused}
 use Rattle.replay.proofs.dump.every_range.Goals as goal

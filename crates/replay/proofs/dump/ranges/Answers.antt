@@ -1,8 +1,4 @@
-use Rattle.std.proofs.Common.{◌≡◌, ℕ, ◌+◌, ◌-◌, ◌≤◌, List, ◌++◌, length, drop, refl, ◌∙◌, arith, rules}
-use Rattle.scan.specs.Cut.{Piece, rows}
-use Rattle.scan.proofs.Rows.{start_of}
-use Rattle.render.specs.Print.{Prints}
-use Rattle.render.specs.Range.{more_line}
+use Rattle.std.proofs.Common.{refl, ◌∙◌, arith}
 use Rattle.render.proofs.PrintLaws.{prints-none, prints_then}
 use Rattle.replay.proofs.DumpLaws.{ranges-first, ranges_on, ranges-done, ranges-none}
 use Rattle.replay.proofs.dump.ranges.Goals as goal

@@ -1,4 +1,4 @@
-use Rattle.std.proofs.Common.{◌≡◌, ℕ, List, drop, sym, ◌∙◌, rules}
+use Rattle.std.proofs.Common.{◌≡◌, ℕ, List, drop, sym, ◌∙◌}
 use Rattle.replay.specs.Question.{kinds, explainable_by}
 use Rattle.replay.proofs.QuestionLaws.{this_kind, other_kind}
 use Rattle.replay.proofs.question.explained_kind.Goals as goal

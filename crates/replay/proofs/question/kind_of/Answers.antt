@@ -1,4 +1,4 @@
-use Rattle.std.proofs.Common.{◌≡◌, ℕ, List, drop, sym, ◌∙◌, rules}
+use Rattle.std.proofs.Common.{◌≡◌, ℕ, List, drop, sym, ◌∙◌}
 use Rattle.replay.specs.Question.{words, kind_of}
 use Rattle.replay.proofs.QuestionLaws.{this_word, other_word}
 use Rattle.replay.proofs.question.kind_of.Goals as goal

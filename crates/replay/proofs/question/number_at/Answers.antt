@@ -1,4 +1,4 @@
-use Rattle.std.proofs.Common.{sym, ◌∙◌, arith, rules}
+use Rattle.std.proofs.Common.{sym, ◌∙◌, arith}
 use Rattle.text.proofs.FindLaws.{from_at}
 use Rattle.replay.specs.Question.{number_then}
 use Rattle.text.specs.Bytes.{bytes}

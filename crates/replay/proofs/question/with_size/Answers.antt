@@ -1,4 +1,3 @@
-use Rattle.std.proofs.Common.{rules}
 use Rattle.replay.proofs.question.with_size.Goals as goal
 
 -- `with_size` meets its contract.

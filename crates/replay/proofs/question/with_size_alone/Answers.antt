@@ -1,5 +1,4 @@
 use Rattle.text.proofs.BytesLaws.{part-rest}
-use Rattle.std.proofs.Common.{rules}
 use Rattle.replay.proofs.question.with_size_alone.Goals as goal
 
 -- `with_size_alone` meets its contract.

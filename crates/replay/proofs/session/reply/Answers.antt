@@ -1,4 +1,4 @@
-use Rattle.std.proofs.Common.{◌≡◌, length, arith, length-append, rules, le-leb}
+use Rattle.std.proofs.Common.{◌≡◌, length, arith, length-append, le-leb}
 use borrow.Author.Tests.{lt-leb}
 use Rattle.text.specs.Bytes.{bytes}
 use Rattle.render.proofs.PrintLaws.{prints_then, prints-whole}

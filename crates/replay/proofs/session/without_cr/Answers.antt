@@ -1,4 +1,4 @@
-use Rattle.std.proofs.Common.{sym, arith, rules}
+use Rattle.std.proofs.Common.{sym, arith}
 use Rattle.text.specs.Bytes.{part}
 use Rattle.replay.specs.Reply.{without_cr}
 use Rattle.replay.proofs.ReplyLaws.{last_byte, without-none}

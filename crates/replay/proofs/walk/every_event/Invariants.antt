@@ -1,12 +1,7 @@
-use Rattle.std.proofs.Common.{◌≡◌, ℕ, ◌-◌, List, length, sym, refl, ap, ◌∙◌, arith, rules}
-use Rattle.at.specs.Refusal.{refusal_of}
-use Rattle.at.specs.W36.{event_of}
-use Rattle.at.specs.Walk.{shown, walk_at, walk as walk_over}
-use Rattle.at.proofs.WalkLaws.{event-moves}
+use Rattle.std.proofs.Common.{◌≡◌, ℕ, ◌-◌, List, length}
+use Rattle.at.specs.Walk.{walk_at, walk as walk_over}
 use Rattle.render.specs.Print.{Prints}
 use Rattle.render.specs.Walk.{walk_line}
-use Rattle.render.proofs.PrintLaws.{prints_then}
-use Rattle.replay.proofs.WalkLaws.{walk-event, walk-ended, walk_refused}
 use Rattle.replay.proofs.walk.every_event.Given as goal
 
 -- `every_event` meets its contract: what completes the walk from its place on completes the whole. It ends, since each event moves the walk on, and
