@@ -18,7 +18,7 @@ use Rattle.pcap.specs.File.{entry, Fits}
 use Rattle.render.specs.Words.{digit, pairs_of, hex_of}
 use Rattle.render.specs.Frame.{frame_line}
 use Rattle.render.specs.Capture.{six_digits, time_line, meaning_line}
-use Rattle.lines.specs.Hex.{digit_of, is_digit, spells, pairs, bytes_in}
+use Rattle.lines.specs.Hex.{digit_of, spells, pairs, bytes_in}
 use Rattle.lines.specs.Number.{amount, number_in, capped}
 use Rattle.lines.specs.Cut.{cut, cut_at}
 use Rattle.lines.proofs.NumberLaws.{capped_start}

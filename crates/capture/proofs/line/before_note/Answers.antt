@@ -1,4 +1,4 @@
-use Rattle.std.proofs.Common.{sym, ◌∙◌, rules}
+use Rattle.std.proofs.Common.{sym, ◌∙◌}
 use Rattle.text.specs.Bytes.{bytes}
 use Rattle.capture.specs.Line.{content}
 use Rattle.capture.proofs.LineLaws.{found-cut, found_none}

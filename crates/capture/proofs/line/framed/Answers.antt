@@ -1,4 +1,4 @@
-use Rattle.std.proofs.Common.{sym, ◌∙◌, rules}
+use Rattle.std.proofs.Common.{sym, ◌∙◌}
 use Rattle.lines.specs.Hex.{bytes_in}
 use Rattle.capture.proofs.LineLaws.{framed-bytes, framed-no_hex, framed-no-room}
 use Rattle.capture.proofs.line.framed.Goals as goal

@@ -1,4 +1,4 @@
-use Rattle.std.proofs.Common.{sym, ◌∙◌, arith, rules}
+use Rattle.std.proofs.Common.{sym, ◌∙◌, arith}
 use Rattle.text.specs.Bytes.{bytes}
 use Rattle.text.proofs.FindLaws.{from_at}
 use Rattle.capture.proofs.LineLaws.{found-cut, found_none, empty_line, full_line}

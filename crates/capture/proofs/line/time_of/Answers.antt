@@ -1,4 +1,4 @@
-use Rattle.std.proofs.Common.{sym, rules, eq-eqb, ne_eqb}
+use Rattle.std.proofs.Common.{sym, eq-eqb, ne_eqb}
 use Rattle.capture.proofs.LineLaws.{time-good, seconds_large, microseconds_large}
 use Rattle.capture.proofs.line.time_of.Goals as goal
 

@@ -1,4 +1,4 @@
-use Rattle.std.proofs.Common.{◌≡◌, ◌≤◌, length, take, sym, ap, ◌∙◌, arith, rules}
+use Rattle.std.proofs.Common.{◌≡◌, take, sym, ap, ◌∙◌, arith}
 use lib.Seq.{take-length}
 use Rattle.text.specs.Bytes.{part}
 use Rattle.capture.specs.Line.{trimmed}

@@ -1,8 +1,5 @@
-use Rattle.std.proofs.Common.{◌≡◌, ◌≤◌, length, take, sym, ap, ◌∙◌, arith, rules}
-use lib.Seq.{take-length}
-use Rattle.text.specs.Bytes.{part}
+use Rattle.std.proofs.Common.{◌≡◌, ◌≤◌, length, take}
 use Rattle.capture.specs.Line.{trimmed}
-use Rattle.capture.proofs.LineLaws.{blank_dropped, rest-kept}
 use Rattle.capture.proofs.line.trim.Given as goal
 
 -- `line::trim` meets its contract: the blanks from `n` on are not counted. Assumes nothing.

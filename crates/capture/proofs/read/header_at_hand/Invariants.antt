@@ -1,4 +1,4 @@
-use Rattle.std.proofs.Common.{◌≡◌, length, rules}
+use Rattle.std.proofs.Common.{◌≡◌, length}
 use Rattle.capture.proofs.read.header_at_hand.Given as goal
 
 -- `read::header_at_hand` is safe, and ends: a turn is counted down. Assumes nothing.

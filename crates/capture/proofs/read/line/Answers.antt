@@ -1,4 +1,4 @@
-use Rattle.std.proofs.Common.{arith, rules}
+use Rattle.std.proofs.Common.{arith}
 use Rattle.render.proofs.PrintLaws.{prints_then, prints-whole}
 use Rattle.capture.specs.Record.{record_line}
 use Rattle.capture.proofs.ReadLaws.{line_room}

@@ -1,4 +1,4 @@
-use Rattle.std.proofs.Common.{◌≡◌, ◌-◌, ◌≤◌, length, sym, refl, ap, ◌∙◌, arith, rules}
+use Rattle.std.proofs.Common.{sym, refl, ap, ◌∙◌, arith}
 use Rattle.pcap.specs.Read.{record_shown}
 use Rattle.pcap.proofs.ReadLaws.{found-places}
 use Rattle.capture.proofs.read.lines.Goals as goal

@@ -1,6 +1,4 @@
-use Rattle.std.proofs.Common.{◌≡◌, ◌-◌, ◌≤◌, length, sym, refl, ap, ◌∙◌, arith, rules}
-use Rattle.pcap.specs.Read.{record_shown}
-use Rattle.pcap.proofs.ReadLaws.{found-places}
+use Rattle.std.proofs.Common.{◌≡◌, ◌-◌, ◌≤◌, length}
 use Rattle.capture.proofs.read.lines.Given as goal
 
 -- `read::lines` is safe, and ends: each record leads to a later place, and not past the end of the bytes. Assumes nothing.

@@ -1,4 +1,4 @@
-use Rattle.std.proofs.Common.{sym, refl, ap, ◌∙◌, rules}
+use Rattle.std.proofs.Common.{sym, refl, ap, ◌∙◌}
 use Rattle.capture.specs.Steps.{said_of}
 use Rattle.capture.proofs.LineLaws.{said_fits}
 use Rattle.capture.proofs.write.put_line.Goals as goal

@@ -1,4 +1,4 @@
-use Rattle.std.proofs.Common.{◌≡◌, ◌-◌, ◌<◌, ◌≤◌, length, refl, ◌∙◌, arith, rules}
+use Rattle.std.proofs.Common.{◌≡◌, ◌-◌, ◌<◌, ◌≤◌, length}
 use Rattle.capture.proofs.write.put_lines.Given as goal
 
 -- `write::put_lines` is safe, and ends: each line starts after the end of the one before it. Assumes nothing.

@@ -1,4 +1,4 @@
-use Rattle.std.proofs.Common.{◌≡◌, ℕ, ◌+◌, length, sym, ap, ◌∙◌, arith, rules}
+use Rattle.std.proofs.Common.{◌≡◌, ℕ, ◌+◌, length, sym, ap, ◌∙◌, arith}
 use Rattle.pcap.specs.Layout.{record_bytes}
 use Rattle.pcap.specs.Write.{shown}
 use Rattle.pcap.specs.declared.ByteOrder.TheVariants.{Little}

@@ -1,4 +1,4 @@
-use Rattle.std.proofs.Common.{◌≡◌, length, rules}
+use Rattle.std.proofs.Common.{◌≡◌, length}
 use Rattle.capture.proofs.write.records.Given as goal
 
 -- `write::records` is safe, and ends: a turn is counted down. Assumes nothing.

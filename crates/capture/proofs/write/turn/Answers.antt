@@ -1,4 +1,4 @@
-use Rattle.std.proofs.Common.{◌∙◌, rules}
+use Rattle.std.proofs.Common.{◌∙◌}
 use Rattle.capture.proofs.write.turn.Goals as goal
 
 -- `write::turn` is safe: the calls leave the buffers as long as they were. Assumes nothing.
