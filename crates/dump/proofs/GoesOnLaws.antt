@@ -1,7 +1,7 @@
 -- Laws of the loop over the ranges of a window: after each range the state says the truth, and the loop ends where nothing more is decided. Assumes nothing.
 use Rattle.std.proofs.Common.{◌≡◌, ℕ, suc, ◌+◌, ◌%◌, ◌^◌, ◌<◌, ◌≤◌, Bool, true, false, cond, leb, ◌⊎◌, List, [], ◌++◌, length, drop, sym, refl, ap, ◌∙◌, subst, inl, inr, add-one, arith, length-append, length-drop, length-take-le, leb-false, leb-true}
 use Rattle.text.specs.Bytes.{part}
-use Rattle.scan.specs.Cut.{kept, cut}
+use Rattle.scan.specs.Cut.{cut}
 use Rattle.scan.specs.Listed.{listed_at}
 use Rattle.scan.specs.Window.{decided_places, decided_bytes, Reported}
 use Rattle.scan.specs.declared.listed.Listed.{Listed}

@@ -1,4 +1,4 @@
-use Rattle.std.proofs.Common.{arith, rules}
+use Rattle.std.proofs.Common.{arith}
 use Rattle.render.proofs.PrintLaws.{prints_then, prints-whole}
 use Rattle.dump.proofs.PutLaws.{end-room}
 use Rattle.dump.proofs.put.put_end.Goals as goal

@@ -1,4 +1,4 @@
-use Rattle.std.proofs.Common.{arith, rules}
+use Rattle.std.proofs.Common.{arith}
 use Rattle.render.proofs.PrintLaws.{prints_then, prints-whole}
 use Rattle.dump.proofs.PutLaws.{frame-room}
 use Rattle.dump.proofs.put.put_frame.Goals as goal

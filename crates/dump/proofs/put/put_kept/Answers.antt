@@ -1,6 +1,5 @@
 use Rattle.render.proofs.PrintLaws.{prints_then}
 use Rattle.dump.specs.Put.{kept_bytes}
-use Rattle.std.proofs.Common.{rules}
 use Rattle.dump.proofs.put.put_kept.Goals as goal
 
 -- `put::put_kept` meets its contract. Assumes nothing.

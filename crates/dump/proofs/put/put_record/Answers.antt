@@ -1,4 +1,4 @@
-use Rattle.std.proofs.Common.{ℕ, replicate, rules}
+use Rattle.std.proofs.Common.{ℕ, replicate}
 use lib.ListN.{length-replicate}
 use Rattle.render.proofs.PrintLaws.{prints-none}
 use Rattle.dump.proofs.PutLaws.{record_put, record_unput}

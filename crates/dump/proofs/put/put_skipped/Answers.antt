@@ -1,4 +1,4 @@
-use Rattle.std.proofs.Common.{rules, ne_eqb}
+use Rattle.std.proofs.Common.{ne_eqb}
 use Rattle.render.proofs.PrintLaws.{prints-none, prints_then}
 use Rattle.dump.specs.Put.{skipped_bytes}
 use Rattle.dump.proofs.PutLaws.{skipped_nothing}

@@ -1,6 +1,5 @@
 use Rattle.render.proofs.PrintLaws.{prints-none}
 use Rattle.dump.specs.Put.{total_bytes}
-use Rattle.std.proofs.Common.{rules}
 use Rattle.dump.proofs.put.put_total.Goals as goal
 
 -- `put::put_total` meets its contract. Assumes nothing.

@@ -1,4 +1,4 @@
-use Rattle.std.proofs.Common.{sym, ◌∙◌, rules}
+use Rattle.std.proofs.Common.{sym, ◌∙◌}
 use Rattle.dump.specs.Total.{counted_frame}
 use Rattle.dump.proofs.total.count_frame.Goals as goal
 

@@ -1,5 +1,4 @@
 use Rattle.render.proofs.PrintLaws.{prints_then}
-use Rattle.std.proofs.Common.{rules}
 use Rattle.dump.proofs.total.frames.Goals as goal
 
 -- `total::frames` meets its contract. Assumes nothing.

@@ -1,4 +1,3 @@
-use Rattle.std.proofs.Common.{rules}
 use Rattle.dump.proofs.total.is_refused.Goals as goal
 
 -- `total::is_refused` meets its contract. Assumes nothing.

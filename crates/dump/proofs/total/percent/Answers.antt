@@ -1,5 +1,4 @@
 use Rattle.render.proofs.PrintLaws.{prints_then}
-use Rattle.std.proofs.Common.{rules}
 use Rattle.dump.proofs.total.percent.Goals as goal
 
 -- `total::percent` meets its contract. Assumes nothing.

@@ -1,6 +1,5 @@
 use Rattle.render.proofs.PrintLaws.{prints_then}
 use Rattle.dump.specs.Total.{total_line}
-use Rattle.std.proofs.Common.{rules}
 use Rattle.dump.proofs.total.total_line.Goals as goal
 
 -- `total::total_line` meets its contract. Assumes nothing.

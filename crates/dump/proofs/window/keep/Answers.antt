@@ -1,4 +1,3 @@
-use Rattle.std.proofs.Common.{rules}
 use Rattle.dump.proofs.window.keep.Goals as goal
 
 -- `window::keep` meets its contract. Assumes nothing.

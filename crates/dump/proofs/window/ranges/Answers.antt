@@ -1,6 +1,6 @@
-use Rattle.std.proofs.Common.{◌≡◌, ◌-◌, ◌≤◌, length, sym, refl, ◌∙◌, arith, rules}
+use Rattle.std.proofs.Common.{sym, refl, ◌∙◌, arith}
 use Rattle.dump.proofs.WindowLaws.{decided_few}
-use Rattle.dump.proofs.GoesOnLaws.{Going, going_start, going_step, going-stop, going_end}
+use Rattle.dump.proofs.GoesOnLaws.{going_start, going_step, going-stop, going_end}
 use Rattle.dump.proofs.window.ranges.Goals as goal
 
 pub loop-i-init : goal.loop-i-init

@@ -1,6 +1,5 @@
-use Rattle.std.proofs.Common.{◌≡◌, ◌-◌, ◌≤◌, length, sym, refl, ◌∙◌, arith, rules}
-use Rattle.dump.proofs.WindowLaws.{decided_few}
-use Rattle.dump.proofs.GoesOnLaws.{Going, going_start, going_step, going-stop, going_end}
+use Rattle.std.proofs.Common.{◌≡◌, ◌-◌, ◌≤◌, length}
+use Rattle.dump.proofs.GoesOnLaws.{Going}
 use Rattle.dump.proofs.window.ranges.Given as goal
 
 -- `window::ranges` meets its contract: after each range the state says the truth. Assumes nothing.

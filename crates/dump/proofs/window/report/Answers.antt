@@ -1,4 +1,4 @@
-use Rattle.std.proofs.Common.{sym, refl, ◌∙◌, arith, rules}
+use Rattle.std.proofs.Common.{sym, refl, ◌∙◌, arith}
 use mathlib.Core.Bool.{false≢true}
 use Rattle.dump.proofs.WindowLaws.{part-few}
 use Rattle.dump.proofs.window.report.Goals as goal

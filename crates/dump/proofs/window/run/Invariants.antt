@@ -1,4 +1,4 @@
-use Rattle.std.proofs.Common.{◌≡◌, length, rules}
+use Rattle.std.proofs.Common.{◌≡◌, length}
 use Rattle.dump.proofs.window.run.Given as goal
 
 -- `window::run` is safe and ends: a turn is counted down. Assumes nothing.

@@ -1,5 +1,4 @@
 use Rattle.dump.proofs.WindowLaws.{scan_lists, never_refused}
-use Rattle.std.proofs.Common.{rules}
 use Rattle.dump.proofs.window.window.Goals as goal
 
 -- `window::window` meets its contract. Assumes nothing.
