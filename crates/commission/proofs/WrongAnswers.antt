@@ -22,7 +22,7 @@ use Rattle.lines.specs.Number.{number_in}
 use Rattle.lines.specs.Output.{Holds}
 use Rattle.channels.specs.Machine.{Machine, ipv4}
 use Rattle.channels.specs.View.{view}
-use Rattle.commission.specs.Question.{Asked, feeds, asks_rows, nothing, asked, asked_in}
+use Rattle.commission.specs.Question.{Asked, asks_rows, nothing, asked, asked_in}
 use Rattle.commission.specs.Reply.{row_line, open_rows, after, answer_line}
 use Rattle.commission.specs.declared.session.Session.{Session}
 use Rattle.commission.proofs.session.answered as answered

@@ -1,10 +1,8 @@
-use Prim.Native.Nat.{◌-◌, ◌≤◌}
 use mathlib.Core.Path.{◌≡◌, refl, ◌∙◌}
 use native.Mathlib.Omega.{arith}
-use lib.ListN.{length}
 use Rattle.render.proofs.PrintLaws.{prints_then}
 use Rattle.channels.specs.View.{view}
-use Rattle.commission.proofs.ReplyLaws.{RowsPrinted, no_rows, one-row-more}
+use Rattle.commission.proofs.ReplyLaws.{no_rows, one-row-more}
 use Rattle.commission.proofs.put.put_rows.Goals as goal
 
 pub loop-i-init : goal.loop-i-init

@@ -1,10 +1,8 @@
 use Prim.Native.Nat.{◌-◌, ◌≤◌}
-use mathlib.Core.Path.{◌≡◌, refl, ◌∙◌}
-use native.Mathlib.Omega.{arith}
+use mathlib.Core.Path.{◌≡◌}
 use lib.ListN.{length}
-use Rattle.render.proofs.PrintLaws.{prints_then}
 use Rattle.channels.specs.View.{view}
-use Rattle.commission.proofs.ReplyLaws.{RowsPrinted, no_rows, one-row-more}
+use Rattle.commission.proofs.ReplyLaws.{RowsPrinted}
 use Rattle.commission.proofs.put.put_rows.Given as goal
 
 -- `put::put_rows` meets its contract. Assumes nothing.
