@@ -83,7 +83,8 @@ fn last_entry(name: &[u8]) -> Entry
     entry_of(&rows, name)
 }
 
-// The row of a name.
+// The row of a name. A call of its own, so that the bytes of the table are off the stack again before the fields are taken.
+#[inline(never)]
 pub(crate) fn entry(name: &[u8]) -> Entry
     ensures { Enters table name.now result }
 {

@@ -144,7 +144,7 @@ longest_valid s n f =
     let g = valid_longest s in
     omega (arith, f.longest (valid_up_to s) g.within g.sequenced, g.longest n f.within f.sequenced)
 
--- The same of the programs, by what each of them ensures: whatever `valid_up_to_fn` answers is the length of the longest front that is such a run, and
+-- The same of the programs, by what each of them ensures: whatever `valid_up_to` answers is the length of the longest front that is such a run, and
 -- `is_utf8` answers true exactly if the text is one.
 pub valid_up_to_longest : (κs : Lfts 1) (a : Dens κs valid_up_to_fn.Kinds.ps) (x : (res_t valid_up_to_fn.Kinds.r κs).Denot)
     (e : AtExit (ended_of 1 valid_up_to_fn.Kinds.ps valid_up_to_fn.Kinds.r) κs)

@@ -11,7 +11,7 @@ use Rattle.text.specs.Bytes.{part}
 use Rattle.at.proofs.w36.read.Goals as goal
 use Rattle.at.proofs.w36.read.Goals.{In-Body}
 
--- `w36::read` meets its contract: of a well_framed line, the text before the next CR LF is read. Assumes nothing.
+-- `w36::read` meets its contract: of a well-framed line, the text before the next CR LF is read. Assumes nothing.
 -- the text of the line, up to its last two bytes
 abbrev text : In-Body → List ℕ
 text c = drop c.in-Body.start (take c.in-Body.end c.args.s.now)
