@@ -188,7 +188,7 @@ module _ (radio : Radio) (p : ℕ) (line : List ℕ) where
       record {
         place = q;
         text = t;
-        well-framed = f;
+        well_framed = f;
         row = r.0;
         number = r.1.0.0;
         listed = r.1.0.1;

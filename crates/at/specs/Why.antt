@@ -83,7 +83,7 @@ CarriesField (invalid i why) = Unit {0}
 pub record NamesInLine (radio : Radio) (p : ℕ) (line : List ℕ) (n : Refusal) : Type 0 where
   pub place : ℕ
   pub text : List ℕ
-  pub well-framed : framed p line ≡ good (body place text)
+  pub well_framed : framed p line ≡ good (body place text)
   pub row : Row
   pub number : ℕ
   pub listed : row_no radio.rows number ≡ good row
