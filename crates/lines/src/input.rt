@@ -1,6 +1,6 @@
 // Standard input, in pieces as large as they come.
 ghost use Rattle.std.specs.Prelude.{◌-◌, ◌≤◌, ◌<◌, ◌≡◌, length};
-ghost use Rattle.text.specs.Bytes.{part as part_of};
+ghost use Rattle.text.specs.Bytes.{part};
 ghost use Rattle.lines.specs.Input.{line_end, without_cr, with_front, ReadAfter};
 
 use std::io;
@@ -84,7 +84,7 @@ pub fn without_cr(line: &[u8]) -> &[u8]
 
 // Moves the bytes from `start` up to `end` to the front, and answers how many they are.
 pub fn move_to_front(input: &mut [u8], start: usize, end: usize) -> usize
-    ensures { (result ≡ length (part_of input.old start (end - start))) × (input.new ≡ with_front input.old (part_of input.old start (end - start))) }
+    ensures { (result ≡ length (part input.old start (end - start))) × (input.new ≡ with_front input.old (part input.old start (end - start))) }
 {
     let mut i = 0;
     let mut from = start;
