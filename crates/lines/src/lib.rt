@@ -1,6 +1,7 @@
-// What lines of text say, for programs that read them: bytes in hex, numbers, and standard input and output in pieces.
+// What lines of text say, for programs that read them: bytes in hex, numbers, arguments, and standard input and output in pieces.
 #![tactic(auto)]
 
+pub mod args;
 pub mod hex;
 pub mod input;
 pub mod number;
