@@ -8,22 +8,19 @@ use mathlib.Core.Bool.{Bool, true, false, cond}
 use native.Mathlib.Omega.{arith}
 use contract.Lifetimes.{Lfts}
 use denote.Triple.Clauses.{AtExit}
-use borrow.Fn.Kinds.{Dens, ended_of}
+use borrow.Fn.Kinds.{Dens, res_t, ended_of}
 use lib.Dec.{eqb, ltb}
 use lib.ListN.{length, get_or}
 use borrow.Author.Tests.{eqb-true, ltb-true, ltb-false, le-ltb}
 use Rattle.text.specs.Bytes.{every}
-use Rattle.text.specs.Number.{Num, some, none, is_digit, digits_from, under, digits, signed, number, shown8, shown16, shown32}
+use Rattle.text.specs.Number.{Num, some, none, is_digit, digits_from, under, digits, signed, number, shown}
 use Rattle.text.specs.Spelling.{Spells, allowed_at, Says}
 use Rattle.text.specs.declared.number.NumberError.TheVariants.{Empty, Byte, Large}
-use Rattle.text.specs.declared.number.Number8.{Number8}
-use Rattle.text.specs.declared.number.Number16.{Number16}
-use Rattle.text.specs.declared.number.Number32.{Number32}
+use Rattle.text.specs.declared.number.NumberError.{NumberError}
+use Rattle.std.specs.Prelude.{Result}
+use Rattle.text.proofs.Readers.{Reader, ps, result, Post, read8, read16, read32, itself}
 use Rattle.text.proofs.Every.{every-head, every_tail}
 use Rattle.text.proofs.Spelling.{value-digits, spells-under, spells_read}
-use Rattle.text.proofs.number.read8 as read8
-use Rattle.text.proofs.number.read16 as read16
-use Rattle.text.proofs.number.read32 as read32
 
 -- a byte that is no digit, somewhere in a text
 abbrev NoDigit : List ℕ → Type 0
@@ -131,15 +128,19 @@ says-only width s (none Byte) p = go (number width s) (says width s)
     go (none Large) q = absurd (not_both q.0 s q.1 p)
 says-only width s (none Large) (n, r, h) = sym (spells-under width n s r ∙ over_limit (2 ^ width) n h)
 
--- the same of the readers' own contracts
-pub says_8 : (κs : Lfts 1) (a : Dens κs read8.Kinds.ps) (e : AtExit (ended_of 1 read8.Kinds.ps read8.Kinds.r) κs) (x : Number8)
-    → read8.Reads.Post κs a x e → Says 8 a.0.now (shown8 x)
-says_8 κs a e x p = rw p (says 8 a.0.now)
+-- the same of the reader's own contract, at any width and at the three that there are
+pub says_read : (r : Reader) (κs : Lfts 2) (a : Dens κs (ps r)) (e : AtExit (ended_of 2 (ps r) (result r)) κs) (x : (res_t (result r) κs).Denot)
+    → Post r κs a x e → Says r.width.bits a.0.now (shown r.width.value x)
+says_read r κs a e x p = rw p (says r.width.bits a.0.now)
 
-pub says_16 : (κs : Lfts 1) (a : Dens κs read16.Kinds.ps) (e : AtExit (ended_of 1 read16.Kinds.ps read16.Kinds.r) κs) (x : Number16)
-    → read16.Reads.Post κs a x e → Says 16 a.0.now (shown16 x)
-says_16 κs a e x p = rw p (says 16 a.0.now)
+pub says_8 : (κs : Lfts 2) (a : Dens κs (ps read8)) (e : AtExit (ended_of 2 (ps read8) (result read8)) κs) (x : Result ℕ NumberError)
+    → Post read8 κs a x e → Says 8 a.0.now (shown itself x)
+says_8 = says_read read8
 
-pub says_32 : (κs : Lfts 1) (a : Dens κs read32.Kinds.ps) (e : AtExit (ended_of 1 read32.Kinds.ps read32.Kinds.r) κs) (x : Number32)
-    → read32.Reads.Post κs a x e → Says 32 a.0.now (shown32 x)
-says_32 κs a e x p = rw p (says 32 a.0.now)
+pub says_16 : (κs : Lfts 2) (a : Dens κs (ps read16)) (e : AtExit (ended_of 2 (ps read16) (result read16)) κs) (x : Result ℕ NumberError)
+    → Post read16 κs a x e → Says 16 a.0.now (shown itself x)
+says_16 = says_read read16
+
+pub says_32 : (κs : Lfts 2) (a : Dens κs (ps read32)) (e : AtExit (ended_of 2 (ps read32) (result read32)) κs) (x : Result ℕ NumberError)
+    → Post read32 κs a x e → Says 32 a.0.now (shown itself x)
+says_32 = says_read read32

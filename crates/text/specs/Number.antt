@@ -1,13 +1,7 @@
 -- Decimal numbers of a width in bits: an optional single plus, then one or more digits, with leading zeros to any length.
-use Rattle.std.specs.Prelude.{ℕ, ◌+◌, ◌*◌, ◌-◌, ◌^◌, List, [], ◌∷◌, Bool, cond, ◌&&◌, eqb, ltb, leb}
+use Rattle.std.specs.Prelude.{ℕ, ◌+◌, ◌*◌, ◌-◌, ◌^◌, List, [], ◌∷◌, Result, Ok, Err, Bool, cond, ◌&&◌, eqb, ltb, leb}
 use Rattle.text.specs.declared.number.NumberError.{NumberError}
 use Rattle.text.specs.declared.number.NumberError.TheVariants.{Empty, Byte, Large}
-use Rattle.text.specs.declared.number.Number8.{Number8}
-use Rattle.text.specs.declared.number.Number8.TheVariants as n8
-use Rattle.text.specs.declared.number.Number16.{Number16}
-use Rattle.text.specs.declared.number.Number16.TheVariants as n16
-use Rattle.text.specs.declared.number.Number32.{Number32}
-use Rattle.text.specs.declared.number.Number32.TheVariants as n32
 
 -- the number that a text spells, or why it spells none: it is empty, a byte of it is not allowed, or the number is too large
 pub data Num : Type 0 where
@@ -42,15 +36,7 @@ signed limit (b ∷ s) = cond (eqb b 43) (digits limit s) (digits limit (b ∷ s
 unfoldable pub number : ℕ → List ℕ → Num
 number width s = signed (2 ^ width) s
 
--- what each answer of the readers says
-abbrev pub shown8 : Number8 → Num
-shown8 (n8.Value n) = some n
-shown8 (n8.Refused e) = none e
-
-abbrev pub shown16 : Number16 → Num
-shown16 (n16.Value n) = some n
-shown16 (n16.Refused e) = none e
-
-abbrev pub shown32 : Number32 → Num
-shown32 (n32.Value n) = some n
-shown32 (n32.Refused e) = none e
+-- what an answer of the reader says, where the value of each number of its width is known
+abbrev pub shown : {A : Type 0} → (A → ℕ) → Result A NumberError → Num
+shown value (Ok a) = some (value a)
+shown value (Err e) = none e

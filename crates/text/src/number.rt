@@ -1,7 +1,7 @@
 // Decimal numbers of 8, 16 and 32 bits, read from a text: an optional plus, then one or more digits.
-ghost use Rattle.std.specs.Prelude.{◌≡◌, ◌≤◌, ◌<◌, drop};
+ghost use Rattle.std.specs.Prelude.{◌≡◌, ℕ, ◌^◌, ◌≤◌, ◌<◌, drop};
 ghost use Rattle.text.specs.Bytes.{every};
-ghost use Rattle.text.specs.Number.{none, is_digit, digits, signed, number, shown8, shown16, shown32};
+ghost use Rattle.text.specs.Number.{none, is_digit, digits, signed, number, shown};
 ghost use Rattle.text.specs.NumberSteps.{spelt, too_large};
 
 // Why a text is no number of a width: it is empty; a byte of it is not allowed, which is no digit and no plus in front of a digit; or every
@@ -13,22 +13,22 @@ pub enum NumberError {
     Large,
 }
 
-#[derive(Clone, Copy)]
-pub enum Number8 {
-    Value(u8),
-    Refused(NumberError),
-}
+// A width in bits, up to 32, that a number may have.
+pub trait Width {
+    ghost bits: { ℕ };
 
-#[derive(Clone, Copy)]
-pub enum Number16 {
-    Value(u16),
-    Refused(NumberError),
-}
+    ghost value: { Self → ℕ };
 
-#[derive(Clone, Copy)]
-pub enum Number32 {
-    Value(u32),
-    Refused(NumberError),
+    // The first number that has more bits.
+    fn limit() -> u64
+        ensures { (result ≡ 2 ^ bits) × (0 < result) × (result ≤ 4294967296) };
+
+    // A number below the limit, at this width.
+    fn narrow(n: u64) -> Self
+        requires { n < 2 ^ bits }
+        ensures { value result ≡ n };
+
+    ghost apart: { (a b : Self) → value a ≡ value b → a ≡ b };
 }
 
 // A number below a limit, before it is given its width.
@@ -112,29 +112,59 @@ fn read_below(s: &[u8], limit: u64) -> Spelt
     }
 }
 
-pub fn read8(s: &[u8]) -> Number8
-    ensures { shown8 result ≡ number 8 s.now }
+pub fn read<T: Width>(s: &[u8]) -> Result<T, NumberError>
+    ensures { shown T.value result ≡ number T.bits s.now }
 {
-    match read_below(s, 256) {
-        Spelt::Value(n) => Number8::Value(n as u8),
-        Spelt::Nothing(e) => Number8::Refused(e),
+    match read_below(s, T::limit()) {
+        Spelt::Value(n) => Ok(T::narrow(n)),
+        Spelt::Nothing(e) => Err(e),
     }
 }
 
-pub fn read16(s: &[u8]) -> Number16
-    ensures { shown16 result ≡ number 16 s.now }
-{
-    match read_below(s, 65536) {
-        Spelt::Value(n) => Number16::Value(n as u16),
-        Spelt::Nothing(e) => Number16::Refused(e),
+impl Width for u8 {
+    ghost bits = { 8 };
+
+    ghost value = { λ n. n };
+
+    ghost apart = { λ a b e. e };
+
+    fn limit() -> u64 {
+        256
+    }
+
+    fn narrow(n: u64) -> u8 {
+        n as u8
     }
 }
 
-pub fn read32(s: &[u8]) -> Number32
-    ensures { shown32 result ≡ number 32 s.now }
-{
-    match read_below(s, 4294967296) {
-        Spelt::Value(n) => Number32::Value(n as u32),
-        Spelt::Nothing(e) => Number32::Refused(e),
+impl Width for u16 {
+    ghost bits = { 16 };
+
+    ghost value = { λ n. n };
+
+    ghost apart = { λ a b e. e };
+
+    fn limit() -> u64 {
+        65536
+    }
+
+    fn narrow(n: u64) -> u16 {
+        n as u16
+    }
+}
+
+impl Width for u32 {
+    ghost bits = { 32 };
+
+    ghost value = { λ n. n };
+
+    ghost apart = { λ a b e. e };
+
+    fn limit() -> u64 {
+        4294967296
+    }
+
+    fn narrow(n: u64) -> u32 {
+        n as u32
     }
 }

@@ -2,10 +2,10 @@ use mathlib.Core.Path.{sym, ◌∙◌, ap}
 use Rattle.text.specs.Field.{place_after, rest_at}
 use Rattle.text.proofs.walk.rest_at.Goals as goal
 
-pub returns-in-Field : goal.returns-in-Field
+pub returns-in-Some : goal.returns-in-Some
 unfolding rest_at
-returns-in-Field c = ap (place_after c.args.at) (sym c.in-Field.is ∙ c.next.ensures)
+returns-in-Some c = ap (place_after c.args.at) (sym c.in-Some.is ∙ c.next.ensures)
 
-pub returns-in-Done : goal.returns-in-Done
+pub returns-in-None : goal.returns-in-None
 unfolding rest_at
-returns-in-Done c = ap (place_after c.args.at) (sym c.in-Done.is ∙ c.next.ensures)
+returns-in-None c = ap (place_after c.args.at) (sym c.in-None.is ∙ c.next.ensures)

@@ -8,18 +8,18 @@ use lib.ListN.{length}
 use borrow.Author.Tests.{leb-true, leb-false}
 use Rattle.text.specs.Decimal.{decimal}
 use Rattle.text.specs.Put.{placed, wrote, after}
-use Rattle.text.specs.declared.put.Wrote.TheVariants.{To, NoRoom}
+use Rattle.std.specs.Prelude.{Option, Some, None}
 use Rattle.text.proofs.PutLaws.{room, no_room}
-use Rattle.text.proofs.decimal.write32.Goals as goal
+use Rattle.text.proofs.decimal.write.Goals as goal
 
 module _ (b : List ℕ) (at n w : ℕ) (e : w ≡ length (decimal n)) (r : Bool) (t : r ≡ leb (at + w) (length b)) where
   has_room : r ≡ true → at + w ≤ length b
   has_room h = leb-true (at + w) (length b) (sym t ∙ h)
 
-  no_place : r ≡ false → (NoRoom ≡ wrote b at (decimal n)) × (b ≡ after b at (decimal n))
+  no_place : r ≡ false → (None ≡ wrote b at (decimal n)) × (b ≡ after b at (decimal n))
   no_place h = let f = leb-false (at + w) (length b) (sym t ∙ h) in let k = no_room b at (decimal n) (omega arith) in (sym k.0, sym k.1)
 
-  to-its-place : (last : List ℕ) → r ≡ true → last ≡ placed b (at + w - length (decimal n)) (decimal n) → (To (at + w) ≡ wrote b at (decimal n)) × (last ≡ after b at (decimal n))
+  to-its-place : (last : List ℕ) → r ≡ true → last ≡ placed b (at + w - length (decimal n)) (decimal n) → (Some (at + w) ≡ wrote b at (decimal n)) × (last ≡ after b at (decimal n))
   to-its-place last h f =
       let k = rw (← e) at (room b at (decimal n) (rw (← e) (has_room h))) in
       let p : at + w - length (decimal n) ≡ at = omega arith in
