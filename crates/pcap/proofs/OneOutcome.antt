@@ -11,12 +11,9 @@ use Rattle.pcap.specs.Write.{wrote, shown}
 use Rattle.pcap.specs.Write as w
 use Rattle.pcap.specs.declared.CaptureError.{CaptureError}
 use Rattle.pcap.specs.declared.CaptureError.TheVariants as error
-use Rattle.pcap.specs.declared.HeaderAnswer.{HeaderAnswer}
-use Rattle.pcap.specs.declared.HeaderAnswer.TheVariants as answer
-use Rattle.pcap.specs.declared.RecordAnswer.{RecordAnswer}
-use Rattle.pcap.specs.declared.RecordAnswer.TheVariants as step
-use Rattle.pcap.specs.declared.WriteAnswer.{WriteAnswer}
-use Rattle.pcap.specs.declared.WriteAnswer.TheVariants as write
+use Rattle.pcap.specs.declared.Header.{Header}
+use Rattle.pcap.specs.declared.Record.{Record}
+use Rattle.std.specs.Prelude.{Option, Some, None, Result, Ok, Err}
 use Rattle.pcap.proofs.read.read_header as read_header_lem
 use Rattle.pcap.proofs.read.read_record as read_record_lem
 use Rattle.pcap.proofs.write.write_header as write-header
@@ -31,39 +28,39 @@ error_back error.CaptureHeaderInvalid = refl
 error_back error.CaptureRecordInvalid = refl
 error_back error.CaptureBufferTooSmall = refl
 
-abbrev header_of : Head → HeaderAnswer
-header_of (head o ours) = answer.Header o ours
-header_of (no_head n) = answer.Refused (error_of n)
+abbrev header_of : Head → Result Header CaptureError
+header_of (head o ours) = Ok (record { order = o; is_ours = ours })
+header_of (no_head n) = Err (error_of n)
 
-header-shown : (r : HeaderAnswer) → header_of (header_shown r) ≡ r
-header-shown (answer.Header o ours) = refl
-header-shown (answer.Refused e) = ap answer.Refused (error_back e)
+header-shown : (r : Result Header CaptureError) → header_of (header_shown r) ≡ r
+header-shown (Ok h) = refl
+header-shown (Err e) = ap Err (error_back e)
 
-abbrev record_of : Outcome → RecordAnswer
-record_of (found a b start len past) = step.Found (record { seconds = a; microseconds = b; start = start; len = len; next = past })
-record_of end = step.End
-record_of (refusal n) = step.Refused (error_of n)
+abbrev record_of : Outcome → Result (Option Record) CaptureError
+record_of (found a b start len past) = Ok (Some (record { seconds = a; microseconds = b; start = start; len = len; next = past }))
+record_of end = Ok None
+record_of (refusal n) = Err (error_of n)
 
-record_shown_lem : (r : RecordAnswer) → record_of (record_shown r) ≡ r
-record_shown_lem (step.Found r) = refl
-record_shown_lem step.End = refl
-record_shown_lem (step.Refused e) = ap step.Refused (error_back e)
+record_shown_lem : (r : Result (Option Record) CaptureError) → record_of (record_shown r) ≡ r
+record_shown_lem (Ok (Some r)) = refl
+record_shown_lem (Ok None) = refl
+record_shown_lem (Err e) = ap Err (error_back e)
 
-abbrev written_of : w.Outcome → WriteAnswer
-written_of (wrote n) = write.Wrote n
-written_of (w.refusal n) = write.Refused (error_of n)
+abbrev written_of : w.Outcome → Result ℕ CaptureError
+written_of (wrote n) = Ok n
+written_of (w.refusal n) = Err (error_of n)
 
-written-shown : (r : WriteAnswer) → written_of (shown r) ≡ r
-written-shown (write.Wrote n) = refl
-written-shown (write.Refused e) = ap write.Refused (error_back e)
+written-shown : (r : Result ℕ CaptureError) → written_of (shown r) ≡ r
+written-shown (Ok n) = refl
+written-shown (Err e) = ap Err (error_back e)
 
-pub header_injective : (x y : HeaderAnswer) → header_shown x ≡ header_shown y → x ≡ y
+pub header_injective : (x y : Result Header CaptureError) → header_shown x ≡ header_shown y → x ≡ y
 header_injective x y e = sym (header-shown x) ∙ ap header_of e ∙ header-shown y
 
-pub record_injective : (x y : RecordAnswer) → record_shown x ≡ record_shown y → x ≡ y
+pub record_injective : (x y : Result (Option Record) CaptureError) → record_shown x ≡ record_shown y → x ≡ y
 record_injective x y e = sym (record_shown_lem x) ∙ ap record_of e ∙ record_shown_lem y
 
-pub write_injective : (x y : WriteAnswer) → shown x ≡ shown y → x ≡ y
+pub write_injective : (x y : Result ℕ CaptureError) → shown x ≡ shown y → x ≡ y
 write_injective x y e = sym (written-shown x) ∙ ap written_of e ∙ written-shown y
 
 pub one-read_header : One 1 read_header_lem.Kinds.ps read_header_lem.Kinds.r read_header_lem.Reads.Post (λ κs x s. x)

@@ -22,11 +22,8 @@ use Rattle.pcap.specs.File.{Entry, entry, AllFit, records, file, Run, record_the
 use Rattle.pcap.specs.declared.ByteOrder.{ByteOrder}
 use Rattle.pcap.specs.declared.ByteOrder.TheVariants.{Little}
 use Rattle.pcap.specs.declared.CaptureError.{CaptureError}
-use Rattle.pcap.specs.declared.HeaderAnswer.TheVariants as answer
 use Rattle.pcap.specs.declared.Record.{Record}
-use Rattle.pcap.specs.declared.RecordAnswer.{RecordAnswer}
-use Rattle.pcap.specs.declared.RecordAnswer.TheVariants as step
-use Rattle.pcap.specs.declared.WriteAnswer.TheVariants as write
+use Rattle.std.specs.Prelude.{Option, Some, None, Result, Ok, Err}
 use Rattle.pcap.proofs.NumberLaws.{Bytes}
 use Rattle.pcap.proofs.ReadLaws.{header_read, found-places}
 use Rattle.pcap.proofs.RunLaws.{run_on}
@@ -41,56 +38,56 @@ use Rattle.pcap.proofs.write.write_record as write_record
 module _ (κs : Lfts 1) (s : Bor (List ℕ)) where
   -- what `read_header` may answer
   abbrev pub Begins : ByteOrder → Bool → Type 0
-  Begins o ours = (i : AtExit (ended_of 1 read_header_lem.Kinds.ps read_header_lem.Kinds.r) κs) × read_header_lem.Reads.Post κs (s, tt) (answer.Header o ours) i
+  Begins o ours = (i : AtExit (ended_of 1 read_header_lem.Kinds.ps read_header_lem.Kinds.r) κs) × read_header_lem.Reads.Post κs (s, tt) (Ok (record { order = o; is_ours = ours })) i
 
   module _ (o : ByteOrder) where
     -- what `read_record` may answer at a place
-    abbrev pub Answers : ℕ → RecordAnswer → Type 0
+    abbrev pub Answers : ℕ → Result (Option Record) CaptureError → Type 0
     Answers at x = (i : AtExit (ended_of 1 read_record_lem.Kinds.ps read_record_lem.Kinds.r) κs) × read_record_lem.Reads.Post κs (o, (s, (at, tt))) x i
 
     -- the answers of a loop from a place on: nothing comes after the end or a refusal, and a record is not the last answer
-    abbrev pub Calls : ℕ → List RecordAnswer → Type 0
+    abbrev pub Calls : ℕ → List (Result (Option Record) CaptureError) → Type 0
     Calls at [] = ⊥
-    Calls at (step.Found r ∷ xs) = Answers at (step.Found r) × Calls r.next xs
-    Calls at (step.End ∷ []) = Answers at step.End
-    Calls at (step.End ∷ x ∷ xs) = ⊥
-    Calls at (step.Refused e ∷ []) = Answers at (step.Refused e)
-    Calls at (step.Refused e ∷ x ∷ xs) = ⊥
+    Calls at (Ok (Some r) ∷ xs) = Answers at (Ok (Some r)) × Calls r.next xs
+    Calls at (Ok None ∷ []) = Answers at (Ok None)
+    Calls at (Ok None ∷ x ∷ xs) = ⊥
+    Calls at (Err e ∷ []) = Answers at (Err e)
+    Calls at (Err e ∷ x ∷ xs) = ⊥
 
     -- what they report, in the definitions' terms
-    abbrev pub reported : ℕ → List RecordAnswer → Run
+    abbrev pub reported : ℕ → List (Result (Option Record) CaptureError) → Run
     reported at [] = then_end
-    reported at (step.Found r ∷ xs) = record_then (entry r.seconds r.microseconds (part s.now r.start r.len)) r.start (reported r.next xs)
-    reported at (step.End ∷ xs) = then_end
-    reported at (step.Refused e ∷ xs) = then_refused (refusal_no e) at
+    reported at (Ok (Some r) ∷ xs) = record_then (entry r.seconds r.microseconds (part s.now r.start r.len)) r.start (reported r.next xs)
+    reported at (Ok None ∷ xs) = then_end
+    reported at (Err e ∷ xs) = then_refused (refusal_no e) at
 
-    pub calls_are_the_run : (xs : List RecordAnswer) (at : ℕ) → Calls at xs → reported at xs ≡ run_at o s.now at
+    pub calls_are_the_run : (xs : List (Result (Option Record) CaptureError)) (at : ℕ) → Calls at xs → reported at xs ≡ run_at o s.now at
     calls_are_the_run [] at c = absurd c
-    calls_are_the_run (step.Found r ∷ xs) at c =
+    calls_are_the_run (Ok (Some r) ∷ xs) at c =
         rw (run_on o s.now at, ← c.0.1)
         (ap (record_then (entry r.seconds r.microseconds (part s.now r.start r.len)) r.start) (calls_are_the_run xs r.next c.1))
-    calls_are_the_run (step.End ∷ []) at c = rw (run_on o s.now at, ← c.1)
-    calls_are_the_run (step.End ∷ x ∷ xs) at c = absurd c
-    calls_are_the_run (step.Refused e ∷ []) at c = rw (run_on o s.now at, ← c.1)
-    calls_are_the_run (step.Refused e ∷ x ∷ xs) at c = absurd c
+    calls_are_the_run (Ok None ∷ []) at c = rw (run_on o s.now at, ← c.1)
+    calls_are_the_run (Ok None ∷ x ∷ xs) at c = absurd c
+    calls_are_the_run (Err e ∷ []) at c = rw (run_on o s.now at, ← c.1)
+    calls_are_the_run (Err e ∷ x ∷ xs) at c = absurd c
 
     -- a record's frame is 16 bytes after the record's start, the next record just past the frame, and both are inside what was lent
-    pub places-inside : (at : ℕ) (r : Record) → Answers at (step.Found r) → (r.start ≡ at + 16) × (r.next ≡ r.start + r.len) × (r.next ≤ length s.now)
+    pub places-inside : (at : ℕ) (r : Record) → Answers at (Ok (Some r)) → (r.start ≡ at + 16) × (r.next ≡ r.start + r.len) × (r.next ≤ length s.now)
     places-inside at r a = let p = found-places o s.now at r.seconds r.microseconds r.start r.len r.next (sym a.1) in (p.0, p.1, p.2)
 
     -- a loop ends: it has no more calls than there are bytes left, and one for the end
-    pub calls_are_few : (xs : List RecordAnswer) (at : ℕ) → at ≤ length s.now → Calls at xs → length xs + at ≤ length s.now + 1
+    pub calls_are_few : (xs : List (Result (Option Record) CaptureError)) (at : ℕ) → at ≤ length s.now → Calls at xs → length xs + at ≤ length s.now + 1
     calls_are_few [] at h c = absurd c
-    calls_are_few (step.Found r ∷ xs) at h c =
+    calls_are_few (Ok (Some r) ∷ xs) at h c =
         let p = places-inside at r c.0 in
         omega (arith, p.0, p.1, calls_are_few xs r.next p.2 c.1)
-    calls_are_few (step.End ∷ []) at h c = omega arith
-    calls_are_few (step.End ∷ x ∷ xs) at h c = absurd c
-    calls_are_few (step.Refused e ∷ []) at h c = omega arith
-    calls_are_few (step.Refused e ∷ x ∷ xs) at h c = absurd c
+    calls_are_few (Ok None ∷ []) at h c = omega arith
+    calls_are_few (Ok None ∷ x ∷ xs) at h c = absurd c
+    calls_are_few (Err e ∷ []) at h c = omega arith
+    calls_are_few (Err e ∷ x ∷ xs) at h c = absurd c
 
     -- over a whole file: what the definitions say of it, in at most as many calls as it has bytes
-    pub calls_read_the_file : (ours : Bool) → Begins o ours → (xs : List RecordAnswer) → Calls 24 xs → (reported 24 xs ≡ read_file s.now) × (length xs ≤ length s.now)
+    pub calls_read_the_file : (ours : Bool) → Begins o ours → (xs : List (Result (Option Record) CaptureError)) → Calls 24 xs → (reported 24 xs ≡ read_file s.now) × (length xs ≤ length s.now)
     unfolding read_file
     calls_read_the_file ours b xs c =
         let h = header_read s.now o ours (sym b.1) in
@@ -102,7 +99,7 @@ pub record WroteHeader : Type 0 where
   pub args : Dens lifetimes write-header.Kinds.ps
   pub exit : AtExit (ended_of 1 write-header.Kinds.ps write-header.Kinds.r) lifetimes
   pub count : ℕ
-  pub allowed : write-header.Reads.Post lifetimes args (write.Wrote count) exit
+  pub allowed : write-header.Reads.Post lifetimes args (Ok count) exit
 
 -- seconds are a u32
 pub record WroteRecord : Type 0 where
@@ -110,7 +107,7 @@ pub record WroteRecord : Type 0 where
   pub args : Dens lifetimes write_record.Kinds.ps
   pub exit : AtExit (ended_of 2 write_record.Kinds.ps write_record.Kinds.r) lifetimes
   pub count : ℕ
-  pub allowed : write_record.Reads.Post lifetimes args (write.Wrote count) exit
+  pub allowed : write_record.Reads.Post lifetimes args (Ok count) exit
   pub small : args.1.0 < 4294967296
 
 -- the file that calls write: what each put at the start of its buffer, one after the other
@@ -182,7 +179,7 @@ records_are (w ∷ ws) =
 pub calls_write_the_file : (w : WroteHeader) (ws : List WroteRecord) → (header_of w ++ records_of ws ≡ file Little (asked ws)) × AllFit (asked ws)
 calls_write_the_file w ws = let r = records_are ws in (rw (header_is w, r.0), r.1)
 
-module _ (κs : Lfts 1) (s : Bor (List ℕ)) (o : ByteOrder) (ours : Bool) (begins : Begins κs s o ours) (xs : List RecordAnswer) (calls : Calls κs s o 24 xs)
+module _ (κs : Lfts 1) (s : Bor (List ℕ)) (o : ByteOrder) (ours : Bool) (begins : Begins κs s o ours) (xs : List (Result (Option Record) CaptureError)) (calls : Calls κs s o 24 xs)
     (w : WroteHeader) (ws : List WroteRecord) where
   -- written by calls, read by calls: the same times and bytes, record after record, and then the end
   pub written-reads_back : s.now ≡ header_of w ++ records_of ws → reported κs s o 24 xs ≡ whole 24 (asked ws)
@@ -203,10 +200,10 @@ unchanged buf n (bytes f) e = let z : ◌≡◌ {A = ℕ} 0 1 = cc in absurd (om
 unchanged buf n (refused m) e = refl
 
 pub refused-header_unchanged : (κs : Lfts 1) (a : Dens κs write-header.Kinds.ps) (e : AtExit (ended_of 1 write-header.Kinds.ps write-header.Kinds.r) κs) (x : CaptureError)
-    → write-header.Reads.Post κs a (write.Refused x) e → e.0.now ≡ a.0.now
+    → write-header.Reads.Post κs a (Err x) e → e.0.now ≡ a.0.now
 refused-header_unchanged κs a e x p = p.leaves ∙ unchanged a.0.now (refusal_no x) (header_out (length a.0.now)) p.answers
 
 pub refused_record_unchanged : (κs : Lfts 2) (a : Dens κs write_record.Kinds.ps) (e : AtExit (ended_of 2 write_record.Kinds.ps write_record.Kinds.r) κs) (x : CaptureError)
-    → write_record.Reads.Post κs a (write.Refused x) e → e.0.now ≡ a.0.now
+    → write_record.Reads.Post κs a (Err x) e → e.0.now ≡ a.0.now
 refused_record_unchanged κs a e x p =
     p.leaves ∙ unchanged a.0.now (refusal_no x) (record_out (length a.0.now) a.1.0 a.1.1.0 a.1.1.1.0.now) p.answers

@@ -17,8 +17,8 @@ use Rattle.pcap.specs.Number.{value_of}
 use Rattle.pcap.specs.Read.{Outcome, found, end, refusal, number, sound, record_in, read_record, record_shown}
 use Rattle.pcap.specs.declared.ByteOrder.{ByteOrder}
 use Rattle.pcap.specs.declared.Record.{Record}
-use Rattle.pcap.specs.declared.RecordAnswer.{RecordAnswer}
-use Rattle.pcap.specs.declared.RecordAnswer.TheVariants as answer
+use Rattle.pcap.specs.declared.CaptureError.{CaptureError}
+use Rattle.std.specs.Prelude.{Option, Some, Result, Ok}
 use Rattle.pcap.proofs.ReadLaws.{record_good, is_found}
 use Rattle.pcap.proofs.read.read_record as read_record_lem
 
@@ -103,15 +103,15 @@ module _ (o : ByteOrder) (pre u v : List ℕ) (at : ℕ) (inside : at ≤ length
   there = ap (record_in o (length pre + at)) (drop-append-add pre (u ++ v) at ∙ drop-append-le at u v inside) ∙ counted_on o (length pre) at (drop at u ++ v)
 
   module _ (κs : Lfts 1) (s : Bor (List ℕ)) (held : s.now ≡ u) (i : AtExit (ended_of 1 read_record_lem.Kinds.ps read_record_lem.Kinds.r) κs) where
-    pub found-is-found : (r : Record) → read_record_lem.Reads.Post κs (o, (s, (at, tt))) (answer.Found r) i
-        → read_record o (pre ++ (u ++ v)) (length pre + at) ≡ moved (length pre) (record_shown (answer.Found r))
+    pub found-is-found : (r : Record) → read_record_lem.Reads.Post κs (o, (s, (at, tt))) (Ok (Some r)) i
+        → read_record o (pre ++ (u ++ v)) (length pre + at) ≡ moved (length pre) (record_shown (Ok (Some r)))
     found-is-found r p =
         there ∙ ap (moved (length pre)) (found-stays o (drop at u) v at r.seconds r.microseconds r.start r.len r.next (sym (rw held at p)))
 
-    pub enough_decides : (x : RecordAnswer) → read_record_lem.Reads.Post κs (o, (s, (at, tt))) x i → 4115 + at ≤ length u
+    pub enough_decides : (x : Result (Option Record) CaptureError) → read_record_lem.Reads.Post κs (o, (s, (at, tt))) x i → 4115 + at ≤ length u
         → read_record o (pre ++ (u ++ v)) (length pre + at) ≡ moved (length pre) (record_shown x)
     enough_decides x p l = there ∙ ap (moved (length pre)) (window o (drop at u) v (omega (arith, length-drop at u)) at ∙ sym (rw held at p))
 
-    pub last_decides : (x : RecordAnswer) → read_record_lem.Reads.Post κs (o, (s, (at, tt))) x i → v ≡ []
+    pub last_decides : (x : Result (Option Record) CaptureError) → read_record_lem.Reads.Post κs (o, (s, (at, tt))) x i → v ≡ []
         → read_record o (pre ++ (u ++ v)) (length pre + at) ≡ moved (length pre) (record_shown x)
     last_decides x p e = there ∙ ap (λ (t : List ℕ). moved (length pre) (record_in o at t)) (rw (e, append-nil (drop at u))) ∙ ap (moved (length pre)) (sym (rw held at p))

@@ -14,15 +14,15 @@ use Rattle.pcap.specs.Number.{low_first}
 use Rattle.pcap.specs.Layout.{spelled, header_bytes, record_head, record_bytes}
 use Rattle.pcap.specs.Write.{Written, bytes, refused, fitted, header_out, record_out, refusal, shown, Writes}
 use Rattle.pcap.specs.declared.ByteOrder.TheVariants.{Little}
-use Rattle.pcap.specs.declared.WriteAnswer.{WriteAnswer}
-use Rattle.pcap.specs.declared.WriteAnswer.TheVariants as answer
+use Rattle.pcap.specs.declared.CaptureError.{CaptureError}
+use Rattle.std.specs.Prelude.{Result, Ok}
 
 -- a refusal leaves the buffer as it was
-pub refuses : {w : Written} {r : WriteAnswer} (b : List ℕ) (n : ℕ) → w ≡ refused n → shown r ≡ refusal n → Writes b w r b
+pub refuses : {w : Written} {r : Result ℕ CaptureError} (b : List ℕ) (n : ℕ) → w ≡ refused n → shown r ≡ refusal n → Writes b w r b
 refuses b n p q = record { answers = rw p q; leaves = rw p }
 
 -- bytes that fit, put at the front
-pub puts : {w : Written} (b bs e : List ℕ) (n : ℕ) → w ≡ bytes bs → n ≡ length bs → n ≤ length b → e ≡ put b 0 bs → Writes b w (answer.Wrote n) e
+pub puts : {w : Written} (b bs e : List ℕ) (n : ℕ) → w ≡ bytes bs → n ≡ length bs → n ≤ length b → e ≡ put b 0 bs → Writes b w (Ok n) e
 puts b bs e n p l h q = record { answers = rw (p, l); leaves = rw p (q ∙ after_front b bs (omega arith)) }
 
 -- bytes put just after those

@@ -1,15 +1,14 @@
 -- Reading: the header of a file, and the record at a place.
-use Rattle.std.specs.Prelude.{ℕ, ◌+◌, List, Bool, cond, ◌&&◌, eqb, leb, length, drop}
+use Rattle.std.specs.Prelude.{ℕ, ◌+◌, List, Bool, cond, ◌&&◌, eqb, leb, length, drop, Option, Some, None, Result, Ok, Err}
 use Rattle.text.specs.Bytes.{part}
 use Rattle.pcap.specs.Refusal.{refusal_no}
 use Rattle.pcap.specs.Number.{value_of}
 use Rattle.pcap.specs.Layout.{header, matches, exactly}
 use Rattle.pcap.specs.declared.ByteOrder.{ByteOrder}
 use Rattle.pcap.specs.declared.ByteOrder.TheVariants.{Little, Big}
-use Rattle.pcap.specs.declared.HeaderAnswer.{HeaderAnswer}
-use Rattle.pcap.specs.declared.HeaderAnswer.TheVariants as answer
-use Rattle.pcap.specs.declared.RecordAnswer.{RecordAnswer}
-use Rattle.pcap.specs.declared.RecordAnswer.TheVariants as step
+use Rattle.pcap.specs.declared.CaptureError.{CaptureError}
+use Rattle.pcap.specs.declared.Header.{Header}
+use Rattle.pcap.specs.declared.Record.{Record}
 
 -- the byte order of a file, and whether all values of its header are those that are written; or the number of the refusal
 pub data Head : Type 0 where
@@ -62,11 +61,11 @@ abbrev pub read_record : ByteOrder → List ℕ → ℕ → Outcome
 read_record o s at = record_in o at (drop at s)
 
 -- what the answers show
-abbrev pub header_shown : HeaderAnswer → Head
-header_shown (answer.Header o ours) = head o ours
-header_shown (answer.Refused e) = no_head (refusal_no e)
+abbrev pub header_shown : Result Header CaptureError → Head
+header_shown (Ok h) = head h.order h.is_ours
+header_shown (Err e) = no_head (refusal_no e)
 
-abbrev pub record_shown : RecordAnswer → Outcome
-record_shown (step.Found r) = found r.seconds r.microseconds r.start r.len r.next
-record_shown step.End = end
-record_shown (step.Refused e) = refusal (refusal_no e)
+abbrev pub record_shown : Result (Option Record) CaptureError → Outcome
+record_shown (Ok (Some r)) = found r.seconds r.microseconds r.start r.len r.next
+record_shown (Ok None) = end
+record_shown (Err e) = refusal (refusal_no e)

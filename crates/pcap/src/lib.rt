@@ -21,9 +21,9 @@ pub enum ByteOrder {
 
 // The byte order of a file, and whether all values of its header are those that `write_header` writes.
 #[derive(Clone, Copy)]
-pub enum HeaderAnswer {
-    Header { order: ByteOrder, is_ours: bool },
-    Refused(CaptureError),
+pub struct Header {
+    pub order: ByteOrder,
+    pub is_ours: bool,
 }
 
 // The frame is the `len` bytes from `start` on; the next record begins at `next`.
@@ -34,17 +34,4 @@ pub struct Record {
     pub start: usize,
     pub len: usize,
     pub next: usize,
-}
-
-#[derive(Clone, Copy)]
-pub enum RecordAnswer {
-    Found(Record),
-    End,
-    Refused(CaptureError),
-}
-
-#[derive(Clone, Copy)]
-pub enum WriteAnswer {
-    Wrote(usize),
-    Refused(CaptureError),
 }

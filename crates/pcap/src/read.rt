@@ -4,7 +4,7 @@ ghost use Rattle.pcap.specs.Layout.{header, matches, exactly};
 ghost use Rattle.pcap.specs.Read.{read_header, read_record, header_shown, record_shown};
 
 use crate::number::{long, short};
-use crate::{ByteOrder, CaptureError, HeaderAnswer, Record, RecordAnswer};
+use crate::{ByteOrder, CaptureError, Header, Record};
 use text::bytes::part;
 
 fn is_header(order: ByteOrder, s: &[u8]) -> bool
@@ -38,59 +38,59 @@ fn is_ours(order: ByteOrder, s: &[u8]) -> bool
 }
 
 // The header of the file that begins with these bytes.
-pub fn read_header(s: &[u8]) -> HeaderAnswer
+pub fn read_header(s: &[u8]) -> Result<Header, CaptureError>
     ensures { header_shown result ≡ read_header s.now }
 {
     if s.len() < 24 {
-        return HeaderAnswer::Refused(CaptureError::CaptureHeaderInvalid);
+        return Err(CaptureError::CaptureHeaderInvalid);
     }
     if is_header(ByteOrder::Little, s) {
-        return HeaderAnswer::Header {
+        return Ok(Header {
             order: ByteOrder::Little,
             is_ours: is_ours(ByteOrder::Little, s),
-        };
+        });
     }
     if is_header(ByteOrder::Big, s) {
-        return HeaderAnswer::Header {
+        return Ok(Header {
             order: ByteOrder::Big,
             is_ours: is_ours(ByteOrder::Big, s),
-        };
+        });
     }
-    HeaderAnswer::Refused(CaptureError::CaptureHeaderInvalid)
+    Err(CaptureError::CaptureHeaderInvalid)
 }
 
-// The record that begins at a place, or that no byte is left there.
-pub fn read_record(order: ByteOrder, s: &[u8], at: usize) -> RecordAnswer
+// The record that begins at a place; `None`: no byte is left there.
+pub fn read_record(order: ByteOrder, s: &[u8], at: usize) -> Result<Option<Record>, CaptureError>
     ensures { record_shown result ≡ read_record order s.now at }
 {
     let t = part(s, at, s.len());
     let left = t.len();
     if left == 0 {
-        return RecordAnswer::End;
+        return Ok(None);
     }
     if left < 16 {
-        return RecordAnswer::Refused(CaptureError::CaptureRecordInvalid);
+        return Err(CaptureError::CaptureRecordInvalid);
     }
     let microseconds = long(order, t, 4);
     if 999999 < microseconds {
-        return RecordAnswer::Refused(CaptureError::CaptureRecordInvalid);
+        return Err(CaptureError::CaptureRecordInvalid);
     }
     let in_file = long(order, t, 8);
     if in_file != long(order, t, 12) {
-        return RecordAnswer::Refused(CaptureError::CaptureRecordInvalid);
+        return Err(CaptureError::CaptureRecordInvalid);
     }
     if 4099 < in_file {
-        return RecordAnswer::Refused(CaptureError::CaptureRecordInvalid);
+        return Err(CaptureError::CaptureRecordInvalid);
     }
     let len = in_file as usize;
     if left < 16 + len {
-        return RecordAnswer::Refused(CaptureError::CaptureRecordInvalid);
+        return Err(CaptureError::CaptureRecordInvalid);
     }
-    RecordAnswer::Found(Record {
+    Ok(Some(Record {
         seconds: long(order, t, 0),
-        microseconds: microseconds,
+        microseconds,
         start: at + 16,
-        len: len,
+        len,
         next: at + 16 + len,
-    })
+    }))
 }
