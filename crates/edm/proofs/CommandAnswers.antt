@@ -18,8 +18,7 @@ use Rattle.edm.specs.Command.{frame, Command, command, in_source, request_of, co
 use Rattle.edm.specs.declared.Channel.{Channel}
 use Rattle.edm.specs.declared.EdmPacketError.{EdmPacketError}
 use Rattle.edm.specs.declared.EdmPacket.TheVariants as is
-use Rattle.edm.specs.declared.WriteAnswer.{WriteAnswer}
-use Rattle.edm.specs.declared.WriteAnswer.TheVariants as answer
+use Rattle.std.specs.Prelude.{Result, Ok, Err}
 use Rattle.edm.proofs.Refusals.{error_of, error_back}
 use Rattle.edm.proofs.CommandLaws.{frame-length, within, takes, as_command, framed, in_source_lem}
 use Rattle.edm.proofs.command.write_data as write-data
@@ -28,15 +27,15 @@ use Rattle.edm.proofs.command.write_resend as write_resend
 use Rattle.edm.proofs.command.write as write
 
 -- `shown` distinguishes any two answers: it has a left inverse
-abbrev unshown : OrRefused ℕ → WriteAnswer
-unshown (good n) = answer.Wrote n
-unshown (refused n) = answer.Refused (error_of n)
+abbrev unshown : OrRefused ℕ → Result ℕ EdmPacketError
+unshown (good n) = Ok n
+unshown (refused n) = Err (error_of n)
 
-back : (r : WriteAnswer) → unshown (shown r) ≡ r
-back (answer.Wrote n) = refl
-back (answer.Refused e) = ap answer.Refused (error_back e)
+back : (r : Result ℕ EdmPacketError) → unshown (shown r) ≡ r
+back (Ok n) = refl
+back (Err e) = ap Err (error_back e)
 
-pub shown_injective : (r q : WriteAnswer) → shown r ≡ shown q → r ≡ q
+pub shown_injective : (r q : Result ℕ EdmPacketError) → shown r ≡ shown q → r ≡ q
 shown_injective = distinguished shown unshown back
 
 -- the answer, and every byte of the lent buffer
@@ -73,18 +72,18 @@ module _ (κs : Lfts 2) (a : Dens κs write.Kinds.ps) (e : AtExit (ended_of 2 wr
   to_put = to_write (length buf) a.1.0.now a.1.1.0
 
   -- a length that is answered is that of the frame to write, which stands in the buffer: a writer invents none
-  pub says_the_length : (n : ℕ) → write.Reads.Post κs a (answer.Wrote n) e → (f : List ℕ) × (to_put ≡ good f) × (n ≡ length f) × (e.0.now ≡ f ++ drop n buf)
+  pub says_the_length : (n : ℕ) → write.Reads.Post κs a (Ok n) e → (f : List ℕ) × (to_put ≡ good f) × (n ≡ length f) × (e.0.now ≡ f ++ drop n buf)
   says_the_length n p =
       let w = wrote-bytes n to_put p.answers in
       (w.0, w.1, w.2, p.leaves ∙ ap (after buf) w.1 ∙ ap (λ (k : ℕ). w.0 ++ drop k buf) (sym w.2))
 
   -- so the front of the buffer, as long as the answer says, is that frame, and what holds of it (WrittenRead) holds of the bytes that a caller sends
-  pub frame_in_front : (n : ℕ) → write.Reads.Post κs a (answer.Wrote n) e → to_put ≡ good (take n e.0.now)
+  pub frame_in_front : (n : ℕ) → write.Reads.Post κs a (Ok n) e → to_put ≡ good (take n e.0.now)
   frame_in_front n p =
       let w = says_the_length n p in
       w.1 ∙ ap good (sym (ap (take n) w.3 ∙ take_at w.0 (drop n buf) n (sym w.2)))
 
-  pub length_bounds : (n : ℕ) → write.Reads.Post κs a (answer.Wrote n) e → (6 ≤ n) × (n ≤ 4099) × (n ≤ length buf)
+  pub length_bounds : (n : ℕ) → write.Reads.Post κs a (Ok n) e → (6 ≤ n) × (n ≤ 4099) × (n ≤ length buf)
   length_bounds n p =
       let w = says_the_length n p in
       let f = framed (length buf) a.1.0.now a.1.1.0 w.0 w.1 in
@@ -94,7 +93,7 @@ module _ (κs : Lfts 2) (a : Dens κs write.Kinds.ps) (e : AtExit (ended_of 2 wr
       (omega arith, omega arith, omega arith)
 
   -- a writer that answers a length and writes nothing: the buffer would have to begin as a frame does already
-  pub writes_something : (n : ℕ) → write.Reads.Post κs a (answer.Wrote n) e → e.0.now ≡ buf → (get_or buf 0 0 ≡ 0xAA → ⊥) → ⊥
+  pub writes_something : (n : ℕ) → write.Reads.Post κs a (Ok n) e → e.0.now ≡ buf → (get_or buf 0 0 ≡ 0xAA → ⊥) → ⊥
   writes_something n p same other =
       let w = says_the_length n p in
       let f = framed (length buf) a.1.0.now a.1.1.0 w.0 w.1 in
@@ -102,12 +101,12 @@ module _ (κs : Lfts 2) (a : Dens κs write.Kinds.ps) (e : AtExit (ended_of 2 wr
       other (ap (λ (l : List ℕ). get_or l 0 0) g ∙ first_byte f.id f.payload (drop n buf))
 
   -- a refused write that has changed a byte
-  pub refused_changes_nothing : (x : EdmPacketError) → write.Reads.Post κs a (answer.Refused x) e → e.0.now ≡ buf
+  pub refused_changes_nothing : (x : EdmPacketError) → write.Reads.Post κs a (Err x) e → e.0.now ≡ buf
   refused_changes_nothing x p = p.leaves ∙ refused-bytes (refusal_of x) buf to_put p.answers
 
   -- a length is answered only where the source has the place that the command is made of
   in_place : (n start len : ℕ) (make : List ℕ → OrRefused Command) → command_of a.1.0.now a.1.1.0 ≡ in_source a.1.0.now start len make
-      → write.Reads.Post κs a (answer.Wrote n) e → start + len ≤ length a.1.0.now
+      → write.Reads.Post κs a (Ok n) e → start + len ≤ length a.1.0.now
   in_place n start len make m p =
       let w = says_the_length n p in
       let f = framed (length buf) a.1.0.now a.1.1.0 w.0 w.1 in
@@ -115,19 +114,19 @@ module _ (κs : Lfts 2) (a : Dens κs write.Kinds.ps) (e : AtExit (ended_of 2 wr
 
   -- a writer that sends data, or a request, whose place runs past the source
   pub past_source_refused : (n : ℕ) (c : Channel) (d : Text) → a.1.1.0 ≡ is.DataCommand c d → length a.1.0.now < d.start + d.len
-      → write.Reads.Post κs a (answer.Wrote n) e → ⊥
+      → write.Reads.Post κs a (Ok n) e → ⊥
   past_source_refused n c d r h p =
       let i = in_place n d.start d.len (λ t. good (command 0x36 (c.0 ∷ t))) (ap (command_of a.1.0.now) r) p in
       omega arith
 
   pub past_source_refused_request : (n : ℕ) (t : Text) → a.1.1.0 ≡ is.ATRequest t → length a.1.0.now < t.start + t.len
-      → write.Reads.Post κs a (answer.Wrote n) e → ⊥
+      → write.Reads.Post κs a (Ok n) e → ⊥
   past_source_refused_request n t r h p =
       let i = in_place n t.start t.len request_of (ap (command_of a.1.0.now) r) p in
       omega arith
 
   -- a writer that refuses everything
-  pub resend_is-written : (x : EdmPacketError) → a.1.1.0 ≡ is.ResendConnectEvents → 6 ≤ length buf → write.Reads.Post κs a (answer.Refused x) e → ⊥
+  pub resend_is-written : (x : EdmPacketError) → a.1.1.0 ≡ is.ResendConnectEvents → 6 ≤ length buf → write.Reads.Post κs a (Err x) e → ⊥
   resend_is-written x r h p =
       let k = as_command (length buf) a.1.0.now a.1.1.0 (ap (command_of a.1.0.now) r) in
       let w = k ∙ takes (length buf) (good (command 0x56 [])) h ∙ within (length buf) 0x56 [] (omega arith) (omega arith) in

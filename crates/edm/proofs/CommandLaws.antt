@@ -16,8 +16,8 @@ use Rattle.text.proofs.PutAppend.{after_append, after_front}
 use Rattle.at.specs.Written.{answer_to, after}
 use Rattle.at.specs.Refusal.{OrRefused, good, refused, no}
 use Rattle.edm.specs.Command.{frame, Command, command, command_of, in_source, request_of, to_send, to_write, fitted, shown, Writes}
-use Rattle.edm.specs.declared.WriteAnswer.{WriteAnswer}
-use Rattle.edm.specs.declared.WriteAnswer.TheVariants as answer
+use Rattle.edm.specs.declared.EdmPacketError.{EdmPacketError}
+use Rattle.std.specs.Prelude.{Result, Err}
 use Rattle.edm.specs.declared.EdmPacket.{EdmPacket}
 use Rattle.edm.specs.declared.EdmPacketError.TheVariants as error
 
@@ -39,7 +39,7 @@ module _ (room id : ℕ) (t : List ℕ) where
       go false e = refl
 
 -- a refusal leaves the buffer as it was
-pub refuses : {w : OrRefused (List ℕ)} {r : WriteAnswer} (b : List ℕ) (n : ℕ) → w ≡ refused (no n) → shown r ≡ refused (no n) → Writes b w r b
+pub refuses : {w : OrRefused (List ℕ)} {r : Result ℕ EdmPacketError} (b : List ℕ) (n : ℕ) → w ≡ refused (no n) → shown r ≡ refused (no n) → Writes b w r b
 refuses b n p q = record { answers = rw p q; leaves = rw p }
 
 -- bytes put just after those that were put at the front
@@ -87,7 +87,7 @@ module _ (b : List ℕ) (id : ℕ) (x y z : List ℕ) where
         rw fits (q₅ ∙ rw (parts i n) (after_front b (frame id (x ++ y ++ z)) (omega arith)))
 
   pub refused_parts : (length x + length y + length z ≤ 4093 → length b < length x + length y + length z + 6)
-      → Writes b (fitted (length b) (good (command id (x ++ y ++ z)))) (answer.Refused error.PacketEncodePayloadSizeInvalid) b
+      → Writes b (fitted (length b) (good (command id (x ++ y ++ z)))) (Err error.PacketEncodePayloadSizeInvalid) b
   refused_parts h = let l = size in refuses b 10 (over (length b) id (x ++ y ++ z) (λ k. let g = h (omega arith) in omega arith)) refl
 
 -- an empty part
@@ -106,7 +106,7 @@ module _ (room : ℕ) (k : OrRefused Command) where
   takes_none h = rw (lt-ltb room 6 h)
 
 -- so where the command is fitted into such a buffer, it is sent
-pub sends : (b : List ℕ) (k : OrRefused Command) {r : WriteAnswer} {e : List ℕ} → 6 ≤ length b → Writes b (fitted (length b) k) r e → Writes b (to_send (length b) k) r e
+pub sends : (b : List ℕ) (k : OrRefused Command) {r : Result ℕ EdmPacketError} {e : List ℕ} → 6 ≤ length b → Writes b (fitted (length b) k) r e → Writes b (to_send (length b) k) r e
 sends b k h w = rw (takes (length b) k h) w
 
 -- a packet is written as its command is sent
@@ -114,7 +114,7 @@ pub as_command : (room : ℕ) (src : List ℕ) (p : EdmPacket) {k : OrRefused Co
 unfolding to_write
 as_command room src p q = rw q
 
-pub writes : (b src : List ℕ) (p : EdmPacket) {k : OrRefused Command} {r : WriteAnswer} {e : List ℕ} → command_of src p ≡ k
+pub writes : (b src : List ℕ) (p : EdmPacket) {k : OrRefused Command} {r : Result ℕ EdmPacketError} {e : List ℕ} → command_of src p ≡ k
     → Writes b (to_send (length b) k) r e → Writes b (to_write (length b) src p) r e
 writes b src p q w = rw (as_command (length b) src p q) w
 

@@ -20,8 +20,7 @@ use Rattle.edm.specs.declared.Channel.{Channel}
 use Rattle.edm.specs.declared.EdmPacketError.{EdmPacketError}
 use Rattle.edm.specs.declared.EdmPacket.{EdmPacket}
 use Rattle.edm.specs.declared.EdmPacket.TheVariants as is
-use Rattle.edm.specs.declared.FrameAnswer.{FrameAnswer}
-use Rattle.edm.specs.declared.FrameAnswer.TheVariants as answer
+use Rattle.std.specs.Prelude.{Result, Ok, Err}
 use Rattle.edm.proofs.Refusals.{error_of, error_back}
 use Rattle.edm.proofs.frame.read as read
 
@@ -51,15 +50,15 @@ packet_back (is.ATEvent e) = ap is.ATEvent (event_back e)
 packet_back is.ResendConnectEvents = refl
 packet_back is.StartEvent = refl
 
-abbrev unshown : OrRefused Packet → FrameAnswer
-unshown (good p) = answer.Packet (packet_in p)
-unshown (refused n) = answer.Refused (error_of n)
+abbrev unshown : OrRefused Packet → Result EdmPacket EdmPacketError
+unshown (good p) = Ok (packet_in p)
+unshown (refused n) = Err (error_of n)
 
-back : (r : FrameAnswer) → unshown (shown r) ≡ r
-back (answer.Packet p) = ap answer.Packet (packet_back p)
-back (answer.Refused e) = ap answer.Refused (error_back e)
+back : (r : Result EdmPacket EdmPacketError) → unshown (shown r) ≡ r
+back (Ok p) = ap Ok (packet_back p)
+back (Err e) = ap Err (error_back e)
 
-pub shown_injective : (r q : FrameAnswer) → shown r ≡ shown q → r ≡ q
+pub shown_injective : (r q : Result EdmPacket EdmPacketError) → shown r ≡ shown q → r ≡ q
 shown_injective = distinguished shown unshown back
 
 pub one_read_lem : One 1 read.Kinds.ps read.Kinds.r read.Reads.Post (λ κs x s. x)
@@ -77,15 +76,15 @@ data_read = refl
 -- Answers of wrong readers, wherever the frame is lent.
 module _ (κs : Lfts 1) (a : Dens κs read.Kinds.ps) (e : AtExit (ended_of 1 read.Kinds.ps read.Kinds.r) κs) where
   -- a reader that refuses everything, with whatever number
-  pub refuses-not_all : (d : EdmPacketError) → a.0.now ≡ hex "AA 00 02 00 71 55" → read.Reads.Post κs a (answer.Refused d) e → ⊥
+  pub refuses-not_all : (d : EdmPacketError) → a.0.now ≡ hex "AA 00 02 00 71 55" → read.Reads.Post κs a (Err d) e → ⊥
   refuses-not_all d s p =
-      let q : shown (answer.Refused d) ≡ good start_packet = (rw s at p) ∙ start_read in
+      let q : shown (Err d) ≡ good start_packet = (rw s at p) ∙ start_read in
       let z : ◌≡◌ {A = ℕ} 0 1 = cc in
       omega arith
 
   -- a reader that answers StartEvent to everything
-  pub starts_not_all : a.0.now ≡ hex "AA 00 04 00 36 03 41 55" → read.Reads.Post κs a (answer.Packet is.StartEvent) e → ⊥
+  pub starts_not_all : a.0.now ≡ hex "AA 00 04 00 36 03 41 55" → read.Reads.Post κs a (Ok is.StartEvent) e → ⊥
   starts_not_all s p =
-      let q : shown (answer.Packet is.StartEvent) ≡ good (data_packet (num 3 ∷ place 6 1 ∷ [])) = (rw s at p) ∙ data_read in
+      let q : shown (Ok is.StartEvent) ≡ good (data_packet (num 3 ∷ place 6 1 ∷ [])) = (rw s at p) ∙ data_read in
       let z : ◌≡◌ {A = ℕ} 0 1 = cc in
       omega arith

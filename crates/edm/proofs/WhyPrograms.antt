@@ -23,7 +23,9 @@ use Rattle.edm.specs.Packet.{Carries, connect, disconnect, data_event, request, 
 use Rattle.edm.specs.Payload.{byte, word, read_connect, read_disconnect, read_data_event, read_request, of_response, of_event, read_payload}
 use Rattle.edm.specs.Frame.{delimited, length_field, payload, read_frame}
 use Rattle.edm.specs.Why.{PayloadNames, FrameNames}
-use Rattle.edm.specs.declared.FrameAnswer.{FrameAnswer}
+use Rattle.edm.specs.declared.EdmPacket.{EdmPacket}
+use Rattle.edm.specs.declared.EdmPacketError.{EdmPacketError}
+use Rattle.std.specs.Prelude.{Result}
 use Rattle.edm.proofs.frame.read as read
 
 -- Every payload but a W26 line
@@ -75,7 +77,7 @@ frame-names s =
     frame-by (FrameNames s) (plain-names contents 5 (payload s)) s (payload-names contents 5 (payload s))
 
 -- whatever `frame::read` answers
-pub frame_read_names : (κs : Lfts 1) (s : Bor (List ℕ)) (r : FrameAnswer) (i : AtExit (ended_of 1 read.Kinds.ps read.Kinds.r) κs) → read.Reads.Post κs (s, tt) r i
+pub frame_read_names : (κs : Lfts 1) (s : Bor (List ℕ)) (r : Result EdmPacket EdmPacketError) (i : AtExit (ended_of 1 read.Kinds.ps read.Kinds.r) κs) → read.Reads.Post κs (s, tt) r i
     → FrameNames s.now (shown r)
 frame_read_names κs s r i e = rw e (frame-names s.now)
 

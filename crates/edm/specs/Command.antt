@@ -1,5 +1,5 @@
 -- Writing a command packet: the frame's bytes, the answer, and every byte of the buffer afterwards.
-use Rattle.std.specs.Prelude.{◌≡◌, ℕ, ◌+◌, ◌/◌, ◌%◌, List, [], ◌∷◌, ◌++◌, cond, ◌&&◌, leb, ltb, length}
+use Rattle.std.specs.Prelude.{◌≡◌, ℕ, ◌+◌, ◌/◌, ◌%◌, List, [], ◌∷◌, ◌++◌, cond, ◌&&◌, leb, ltb, length, Result, Ok, Err}
 use Rattle.text.specs.Bytes.{part}
 use Rattle.text.specs.Utf8.{utf8}
 use Rattle.at.specs.Refusal.{OrRefused, good, refused, no}
@@ -7,8 +7,7 @@ use Rattle.at.specs.Written.{answer_to, after}
 use Rattle.edm.specs.Refusal.{refusal_of}
 use Rattle.edm.specs.declared.EdmPacket.{EdmPacket}
 use Rattle.edm.specs.declared.EdmPacket.TheVariants as is
-use Rattle.edm.specs.declared.WriteAnswer.{WriteAnswer}
-use Rattle.edm.specs.declared.WriteAnswer.TheVariants as answer
+use Rattle.edm.specs.declared.EdmPacketError.{EdmPacketError}
 
 -- a number of 16 bits, high first
 abbrev pub two_bytes : ℕ → List ℕ
@@ -54,11 +53,11 @@ to_send room c = cond (ltb room 6) (refused (no 2)) (fitted room c)
 unfoldable pub to_write : ℕ → List ℕ → EdmPacket → OrRefused (List ℕ)
 to_write room src p = to_send room (command_of src p)
 
-abbrev pub shown : WriteAnswer → OrRefused ℕ
-shown (answer.Wrote n) = good n
-shown (answer.Refused e) = refused (refusal_of e)
+abbrev pub shown : Result ℕ EdmPacketError → OrRefused ℕ
+shown (Ok n) = good n
+shown (Err e) = refused (refusal_of e)
 
 -- what a write promises: its answer, and every byte of the buffer afterwards
-pub record Writes (buf : List ℕ) (w : OrRefused (List ℕ)) (r : WriteAnswer) (exit : List ℕ) : Type 0 where
+pub record Writes (buf : List ℕ) (w : OrRefused (List ℕ)) (r : Result ℕ EdmPacketError) (exit : List ℕ) : Type 0 where
   pub answers : shown r ≡ answer_to w
   pub leaves : exit ≡ after buf w

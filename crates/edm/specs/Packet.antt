@@ -1,5 +1,5 @@
 -- The packets: what each identifier carries, and what each packet of the code says in these terms.
-use Rattle.std.specs.Prelude.{ℕ, List, [], ◌∷◌, cond, eqb}
+use Rattle.std.specs.Prelude.{ℕ, List, [], ◌∷◌, cond, eqb, Result, Ok, Err}
 use Rattle.at.specs.Refusal.{OrRefused, good, refused}
 use Rattle.at.specs.Event.{Value, at, num, Event}
 use Rattle.at.specs.Response.{Response, response_of}
@@ -7,8 +7,7 @@ use Rattle.at.specs.W26.{event_of}
 use Rattle.edm.specs.Refusal.{refusal_of}
 use Rattle.edm.specs.declared.EdmPacket.{EdmPacket}
 use Rattle.edm.specs.declared.EdmPacket.TheVariants as is
-use Rattle.edm.specs.declared.FrameAnswer.{FrameAnswer}
-use Rattle.edm.specs.declared.FrameAnswer.TheVariants as answer
+use Rattle.edm.specs.declared.EdmPacketError.{EdmPacketError}
 
 -- what the payload of an identifier carries
 pub data Carries : Type 0 where
@@ -55,6 +54,6 @@ packet_of (is.ATEvent e) = at_packet (event_of e)
 packet_of is.ResendConnectEvents = resend_packet
 packet_of is.StartEvent = start_packet
 
-abbrev pub shown : FrameAnswer → OrRefused Packet
-shown (answer.Packet p) = good (packet_of p)
-shown (answer.Refused e) = refused (refusal_of e)
+abbrev pub shown : Result EdmPacket EdmPacketError → OrRefused Packet
+shown (Ok p) = good (packet_of p)
+shown (Err e) = refused (refusal_of e)

@@ -3,7 +3,7 @@ ghost use Rattle.std.specs.Prelude.{◌≡◌, ◌+◌, ◌*◌, drop};
 ghost use Rattle.edm.specs.Packet.{shown};
 ghost use Rattle.edm.specs.Payload.{read_connect};
 
-use crate::{Channel, ConnectEventIPv4, EdmPacket, EdmPacketError, FrameAnswer};
+use crate::{Channel, ConnectEventIPv4, EdmPacket, EdmPacketError};
 use at::Text;
 
 fn wide(b: u8) -> u16
@@ -20,19 +20,19 @@ pub(crate) fn word(high: u8, low: u8) -> u16
 }
 
 // `s` is the frame without its last byte; the payload starts at place 5.
-pub(crate) fn connect_event(s: &[u8]) -> FrameAnswer
+pub(crate) fn connect_event(s: &[u8]) -> Result<EdmPacket, EdmPacketError>
     ensures { shown result ≡ read_connect 5 (drop 5 s.now) }
 {
     if s.len() < 7 {
-        return FrameAnswer::Refused(EdmPacketError::PacketDecodeTargetMemorySizeInvalid);
+        return Err(EdmPacketError::PacketDecodeTargetMemorySizeInvalid);
     }
     if s[6] != 2 {
-        return FrameAnswer::Refused(EdmPacketError::ConnectEventUnsupported);
+        return Err(EdmPacketError::ConnectEventUnsupported);
     }
     if s.len() != 20 {
-        return FrameAnswer::Refused(EdmPacketError::ConnectEventDecodeError);
+        return Err(EdmPacketError::ConnectEventDecodeError);
     }
-    FrameAnswer::Packet(EdmPacket::ConnectEvent {
+    Ok(EdmPacket::ConnectEvent {
         channel: Channel(s[5]),
         event: ConnectEventIPv4 {
             protocol: s[7],

@@ -6,11 +6,11 @@ ghost use Rattle.edm.specs.Frame.{read_frame};
 
 use crate::connect::{connect_event, word};
 use crate::payload::{at_event, at_request, at_response, data_event, disconnect_event};
-use crate::{EdmPacket, EdmPacketError, FrameAnswer};
+use crate::{EdmPacket, EdmPacketError};
 use text::bytes::part;
 
 // `s` is the frame without its last byte.
-fn payload_of(s: &[u8], identifier: u16) -> FrameAnswer
+fn payload_of(s: &[u8], identifier: u16) -> Result<EdmPacket, EdmPacketError>
     ensures { shown result ≡ read_payload (carried identifiers identifier) 5 (drop 5 s.now) }
 {
     match identifier {
@@ -20,32 +20,32 @@ fn payload_of(s: &[u8], identifier: u16) -> FrameAnswer
         0x0044 => at_request(s),
         0x0045 => at_response(s),
         0x0041 => at_event(s),
-        0x0056 => FrameAnswer::Packet(EdmPacket::ResendConnectEvents),
-        0x0071 => FrameAnswer::Packet(EdmPacket::StartEvent),
-        _ => FrameAnswer::Refused(EdmPacketError::PayloadTypeUnknown),
+        0x0056 => Ok(EdmPacket::ResendConnectEvents),
+        0x0071 => Ok(EdmPacket::StartEvent),
+        _ => Err(EdmPacketError::PayloadTypeUnknown),
     }
 }
 
-pub fn read(s: &[u8]) -> FrameAnswer
+pub fn read(s: &[u8]) -> Result<EdmPacket, EdmPacketError>
     ensures { shown result ≡ read_frame s.now }
 {
     let n = s.len();
     if n < 2 {
-        return FrameAnswer::Refused(EdmPacketError::PacketDecodeFramingInvalid);
+        return Err(EdmPacketError::PacketDecodeFramingInvalid);
     }
     if s[0] != 0xAA {
-        return FrameAnswer::Refused(EdmPacketError::PacketDecodeFramingInvalid);
+        return Err(EdmPacketError::PacketDecodeFramingInvalid);
     }
     if s[n - 1] != 0x55 {
-        return FrameAnswer::Refused(EdmPacketError::PacketDecodeFramingInvalid);
+        return Err(EdmPacketError::PacketDecodeFramingInvalid);
     }
     if n < 6 {
-        return FrameAnswer::Refused(EdmPacketError::PacketDecodeTargetMemorySizeInvalid);
+        return Err(EdmPacketError::PacketDecodeTargetMemorySizeInvalid);
     }
     // The top 4 bits of the length are reserved.
     let length = (word(s[1], s[2]) % 4096) as usize;
     if length != n - 4 {
-        return FrameAnswer::Refused(EdmPacketError::PacketTypeDecodeLengthMismatch);
+        return Err(EdmPacketError::PacketTypeDecodeLengthMismatch);
     }
     payload_of(part(s, 0, n - 1), word(s[3], s[4]))
 }

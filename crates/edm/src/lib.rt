@@ -6,6 +6,9 @@ mod connect;
 pub mod frame;
 mod payload;
 
+ghost use Rattle.std.specs.Prelude.{◌≡◌};
+ghost use Rattle.edm.specs.declared.EdmPacketError.TheVariants as of;
+
 use at::response::ATResponse;
 use at::w26::ATEvent;
 use at::{AtPacketError, Text};
@@ -23,6 +26,14 @@ pub enum EdmPacketError {
     PacketEncodeTypeUnknown,
     PacketEncodePayloadSizeInvalid,
     AtPacketError(AtPacketError),
+}
+
+impl From<AtPacketError> for EdmPacketError {
+    ghost from_gives = { λ e r. r ≡ of.AtPacketError e };
+
+    fn from(e: AtPacketError) -> EdmPacketError {
+        EdmPacketError::AtPacketError(e)
+    }
 }
 
 // A channel is counted separately from peer handles and sockets.
@@ -61,16 +72,4 @@ pub enum EdmPacket {
     ATEvent(ATEvent),
     ResendConnectEvents,
     StartEvent,
-}
-
-#[derive(Clone, Copy)]
-pub enum FrameAnswer {
-    Packet(EdmPacket),
-    Refused(EdmPacketError),
-}
-
-#[derive(Clone, Copy)]
-pub enum WriteAnswer {
-    Wrote(usize),
-    Refused(EdmPacketError),
 }

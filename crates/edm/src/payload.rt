@@ -6,32 +6,32 @@ ghost use Rattle.at.specs.W26.{w26, shown as shownEvent};
 ghost use Rattle.edm.specs.Packet.{shown};
 ghost use Rattle.edm.specs.Payload.{read_disconnect, read_data_event, read_request, of_response, of_event};
 
-use crate::{Channel, EdmPacket, EdmPacketError, FrameAnswer};
+use crate::{Channel, EdmPacket, EdmPacketError};
 use at::Text;
 use at::response::ResponseAnswer;
 use at::w26::EventAnswer;
 use text::bytes::part;
 use text::utf8::is_utf8;
 
-pub(crate) fn disconnect_event(s: &[u8]) -> FrameAnswer
+pub(crate) fn disconnect_event(s: &[u8]) -> Result<EdmPacket, EdmPacketError>
     ensures { shown result ≡ read_disconnect 5 (drop 5 s.now) }
 {
     if s.len() == 6 {
-        FrameAnswer::Packet(EdmPacket::DisconnectEvent {
+        Ok(EdmPacket::DisconnectEvent {
             channel: Channel(s[5]),
         })
     } else {
-        FrameAnswer::Refused(EdmPacketError::DisconnectEventDecodeError)
+        Err(EdmPacketError::DisconnectEventDecodeError)
     }
 }
 
-pub(crate) fn data_event(s: &[u8]) -> FrameAnswer
+pub(crate) fn data_event(s: &[u8]) -> Result<EdmPacket, EdmPacketError>
     ensures { shown result ≡ read_data_event 5 (drop 5 s.now) }
 {
     if s.len() < 6 {
-        return FrameAnswer::Refused(EdmPacketError::PacketDecodeTargetMemorySizeInvalid);
+        return Err(EdmPacketError::PacketDecodeTargetMemorySizeInvalid);
     }
-    FrameAnswer::Packet(EdmPacket::DataEvent {
+    Ok(EdmPacket::DataEvent {
         channel: Channel(s[5]),
         data: Text {
             start: 6,
@@ -40,54 +40,54 @@ pub(crate) fn data_event(s: &[u8]) -> FrameAnswer
     })
 }
 
-pub(crate) fn at_request(s: &[u8]) -> FrameAnswer
+pub(crate) fn at_request(s: &[u8]) -> Result<EdmPacket, EdmPacketError>
     ensures { shown result ≡ read_request 5 (drop 5 s.now) }
 {
     let t = part(s, 5, s.len());
     if is_utf8(t) {
-        FrameAnswer::Packet(EdmPacket::ATRequest(Text {
+        Ok(EdmPacket::ATRequest(Text {
             start: 5,
             len: t.len(),
         }))
     } else {
-        FrameAnswer::Refused(EdmPacketError::AtRequestEventDecodeError)
+        Err(EdmPacketError::AtRequestEventDecodeError)
     }
 }
 
-fn response_refused(a: ResponseAnswer) -> FrameAnswer
+fn response_refused(a: ResponseAnswer) -> Result<EdmPacket, EdmPacketError>
     ensures { shown result ≡ of_response (shown_response a) }
 {
     match a {
-        ResponseAnswer::Refused(e) => FrameAnswer::Refused(EdmPacketError::AtPacketError(e)),
-        ResponseAnswer::Response(r) => FrameAnswer::Packet(EdmPacket::ATResponse(r)),
+        ResponseAnswer::Refused(e) => Err(EdmPacketError::AtPacketError(e)),
+        ResponseAnswer::Response(r) => Ok(EdmPacket::ATResponse(r)),
     }
 }
 
-pub(crate) fn at_response(s: &[u8]) -> FrameAnswer
+pub(crate) fn at_response(s: &[u8]) -> Result<EdmPacket, EdmPacketError>
     ensures { shown result ≡ of_response (read_response 5 (drop 5 s.now)) }
 {
     let a = at::response::read(s, 5);
     let ResponseAnswer::Response(r) = a else {
         return response_refused(a);
     };
-    FrameAnswer::Packet(EdmPacket::ATResponse(r))
+    Ok(EdmPacket::ATResponse(r))
 }
 
-fn event_refused(a: EventAnswer) -> FrameAnswer
+fn event_refused(a: EventAnswer) -> Result<EdmPacket, EdmPacketError>
     ensures { shown result ≡ of_event (shownEvent a) }
 {
     match a {
-        EventAnswer::Refused(e) => FrameAnswer::Refused(EdmPacketError::AtPacketError(e)),
-        EventAnswer::Event { event, past: _ } => FrameAnswer::Packet(EdmPacket::ATEvent(event)),
+        EventAnswer::Refused(e) => Err(EdmPacketError::AtPacketError(e)),
+        EventAnswer::Event { event, past: _ } => Ok(EdmPacket::ATEvent(event)),
     }
 }
 
-pub(crate) fn at_event(s: &[u8]) -> FrameAnswer
+pub(crate) fn at_event(s: &[u8]) -> Result<EdmPacket, EdmPacketError>
     ensures { shown result ≡ of_event (read_line w26 5 (drop 5 s.now)) }
 {
     let a = at::w26::read(s, 5);
     let EventAnswer::Event { event, past: _ } = a else {
         return event_refused(a);
     };
-    FrameAnswer::Packet(EdmPacket::ATEvent(event))
+    Ok(EdmPacket::ATEvent(event))
 }
