@@ -5,17 +5,17 @@ use mathlib.Core.List.{List}
 use mathlib.Core.Bool.{true, false}
 use native.Mathlib.Omega.{arith}
 use Rattle.scan.specs.Listed.{listed_at, kept_of, next_kept}
-use Rattle.scan.specs.declared.listed.KeptStep.TheVariants as step
+use Rattle.std.specs.Prelude.{Some, None}
 
 module _ (list : List ℕ) (count i : ℕ) where
-  pub kept_past : count ≤ i → next_kept list count i ≡ step.End
+  pub kept_past : count ≤ i → next_kept list count i ≡ None
   unfolding kept_of
   kept_past h = let e : count - i ≡ 0 = omega arith in rw e
 
   left_one : i < count → count - i ≡ suc (count - (i + 1))
   left_one h = omega arith
 
-  pub kept_here : i < count → (listed_at list i).kept ≡ true → next_kept list count i ≡ step.Kept (listed_at list i).start (listed_at list i).len (i + 1)
+  pub kept_here : i < count → (listed_at list i).kept ≡ true → next_kept list count i ≡ Some (record { start = (listed_at list i).start; len = (listed_at list i).len; next = i + 1 })
   unfolding kept_of
   kept_here h e = rw (left_one h, e)
 

@@ -6,8 +6,8 @@ use lib.Dec.{eqb}
 use Rattle.text.proofs.OneOutcome.{One}
 use Rattle.scan.specs.Scan.{Outcome, ranges, refusal, shown}
 use Rattle.scan.specs.declared.ScanError.TheVariants as refused
-use Rattle.scan.specs.declared.ScanAnswer.{ScanAnswer}
-use Rattle.scan.specs.declared.ScanAnswer.TheVariants as answer
+use Rattle.scan.specs.declared.ScanError.{ScanError}
+use Rattle.std.specs.Prelude.{ℕ, Result, Ok, Err}
 use Rattle.scan.proofs.scan as scan
 use Rattle.scan.proofs.listed.range_at as range_at
 use Rattle.scan.proofs.listed.next_kept as next-kept
@@ -15,16 +15,16 @@ use Rattle.scan.proofs.window.decided_places as decided_places_lem
 use Rattle.scan.proofs.window.decided_bytes as decided_bytes_lem
 
 -- each answer is found again by what it shows
-abbrev answer_of : Outcome → ScanAnswer
-answer_of (ranges n) = answer.Ranges n
-answer_of (refusal n) = answer.Refused (cond (eqb n 22) refused.RangeListFull refused.DumpTooLong)
+abbrev answer_of : Outcome → Result ℕ ScanError
+answer_of (ranges n) = Ok n
+answer_of (refusal n) = Err (cond (eqb n 22) refused.RangeListFull refused.DumpTooLong)
 
-answer-shown : (r : ScanAnswer) → answer_of (shown r) ≡ r
-answer-shown (answer.Ranges n) = refl
-answer-shown (answer.Refused refused.RangeListFull) = refl
-answer-shown (answer.Refused refused.DumpTooLong) = refl
+answer-shown : (r : Result ℕ ScanError) → answer_of (shown r) ≡ r
+answer-shown (Ok n) = refl
+answer-shown (Err refused.RangeListFull) = refl
+answer-shown (Err refused.DumpTooLong) = refl
 
-pub answer_injective : (x y : ScanAnswer) → shown x ≡ shown y → x ≡ y
+pub answer_injective : (x y : Result ℕ ScanError) → shown x ≡ shown y → x ≡ y
 answer_injective x y e = sym (answer-shown x) ∙ ap answer_of e ∙ answer-shown y
 
 pub one_scan : One 2 scan.Kinds.ps scan.Kinds.r scan.Reads.Post (λ κs x s. x) × One 2 scan.Kinds.ps scan.Kinds.r scan.Reads.Post (λ κs x s. s.1.0.now)

@@ -17,7 +17,7 @@ use Rattle.edm.specs.Frame.{payload, read_frame}
 use Rattle.scan.specs.Cut.{passes, run, cut, rows}
 use Rattle.scan.specs.Scan.{after}
 use Rattle.scan.specs.Listed.{listed_at}
-use Rattle.scan.specs.declared.ScanAnswer.TheVariants as answer
+use Rattle.std.specs.Prelude.{Ok}
 use Rattle.scan.specs.declared.listed.Listed.{Listed}
 use Rattle.scan.proofs.RunLaws.{reads_on}
 use Rattle.scan.proofs.ScanLaws.{scan_listed}
@@ -32,7 +32,7 @@ pub record Listing : Type 0 where
   pub args : Dens lifetimes scan.Kinds.ps
   pub exit : AtExit (ended_of 2 scan.Kinds.ps scan.Kinds.r) lifetimes
   pub count : ℕ
-  pub allowed : scan.Reads.Post lifetimes args (answer.Ranges count) exit
+  pub allowed : scan.Reads.Post lifetimes args (Ok count) exit
 
 abbrev pub dump_of : Listing → List ℕ
 dump_of c = c.args.0.now

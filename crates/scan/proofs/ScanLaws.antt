@@ -10,7 +10,7 @@ use borrow.Author.Tests.{lt-ltb, le-ltb, le-leb, lt-leb}
 use Rattle.scan.specs.Cut.{cut, rows}
 use Rattle.scan.specs.Scan.{Scanned, listed, refuse, scanned, ranges, refusal, outcome, Scans}
 use Rattle.scan.specs.declared.ScanError.TheVariants as refused
-use Rattle.scan.specs.declared.ScanAnswer.TheVariants as answer
+use Rattle.std.specs.Prelude.{Ok, Err}
 use Rattle.scan.proofs.CutLaws.{rows-length}
 
 module _ (dump : List ℕ) (room : ℕ) where
@@ -27,17 +27,17 @@ module _ (dump : List ℕ) (room : ℕ) where
   scanned-listed h k = rw (le-ltb 65536 (length dump) h, le-leb (length (rows 0 (cut dump))) room k)
 
 module _ (dump list : List ℕ) where
-  pub too_long_lem : 65536 < length dump → Scans dump list (answer.Refused refused.DumpTooLong) list
+  pub too_long_lem : 65536 < length dump → Scans dump list (Err refused.DumpTooLong) list
   too_long_lem h = let e = scanned_long dump (length list) h in record { answers = rw e; leaves = rw e }
 
-  pub too_full : (n : ℕ) → length dump ≤ 65536 → n ≡ length (cut dump) → length list < n * 3 → Scans dump list (answer.Refused refused.RangeListFull) list
+  pub too_full : (n : ℕ) → length dump ≤ 65536 → n ≡ length (cut dump) → length list < n * 3 → Scans dump list (Err refused.RangeListFull) list
   too_full n h c k =
       let l = rows-length 0 (cut dump) in
       let e = scanned_full dump (length list) h (omega arith) in
       record { answers = rw e; leaves = rw e }
 
   pub all_listed : (n : ℕ) (exit : List ℕ) → length dump ≤ 65536 → n ≡ length (cut dump) → n * 3 ≤ length list
-      → exit ≡ rows 0 (cut dump) ++ drop (length (rows 0 (cut dump))) list → Scans dump list (answer.Ranges n) exit
+      → exit ≡ rows 0 (cut dump) ++ drop (length (rows 0 (cut dump))) list → Scans dump list (Ok n) exit
   all_listed n exit h c k x =
       let l = rows-length 0 (cut dump) in
       let e = scanned-listed dump (length list) h (omega arith) in

@@ -16,11 +16,10 @@ use Rattle.scan.specs.Cut.{passes, run, cut_after, cut, rows}
 use Rattle.scan.specs.Scan.{outcome, after}
 use Rattle.scan.specs.Listed.{kept_of}
 use Rattle.scan.specs.declared.ScanError.TheVariants as error
-use Rattle.scan.specs.declared.ScanAnswer.{ScanAnswer}
-use Rattle.scan.specs.declared.ScanAnswer.TheVariants as answer
+use Rattle.scan.specs.declared.ScanError.{ScanError}
+use Rattle.std.specs.Prelude.{Option, Some, None, Result, Ok, Err}
 use Rattle.scan.specs.declared.listed.Listed.{Listed}
-use Rattle.scan.specs.declared.listed.KeptStep.{KeptStep}
-use Rattle.scan.specs.declared.listed.KeptStep.TheVariants as step
+use Rattle.scan.specs.declared.listed.Kept.{Kept}
 use Rattle.scan.proofs.ScanLaws.{scanned_long, scanned_full, scanned-listed}
 use Rattle.scan.proofs.OneOutcome.{answer_injective}
 use Rattle.scan.proofs.scan as scan
@@ -29,29 +28,29 @@ use Rattle.scan.proofs.listed.next_kept as next-kept
 use Rattle.scan.proofs.window.decided_places as decided_places_lem
 use Rattle.scan.proofs.window.decided_bytes as decided_bytes_lem
 
-module _ (κs : Lfts 2) (dump : Bor (List ℕ)) (list : MutBor (List ℕ)) (x : ScanAnswer) (i : AtExit (ended_of 2 scan.Kinds.ps scan.Kinds.r) κs) (p : scan.Reads.Post κs (dump, (list, tt)) x i) where
+module _ (κs : Lfts 2) (dump : Bor (List ℕ)) (list : MutBor (List ℕ)) (x : Result ℕ ScanError) (i : AtExit (ended_of 2 scan.Kinds.ps scan.Kinds.r) κs) (p : scan.Reads.Post κs (dump, (list, tt)) x i) where
   abbrev Lists : ℕ → List ℕ → Type 0
-  Lists n numbers = (x ≡ answer.Ranges n) × (i.1.0.now ≡ numbers ++ drop (length numbers) list.now)
+  Lists n numbers = (x ≡ Ok n) × (i.1.0.now ≡ numbers ++ drop (length numbers) list.now)
 
-  abbrev Refuses : ScanAnswer → Type 0
+  abbrev Refuses : Result ℕ ScanError → Type 0
   Refuses r = (x ≡ r) × (i.1.0.now ≡ list.now)
 
   -- 23 comes before 22, and both leave the list as it was: one that asks for room first; one that lists what fits and then refuses
-  pub too_long_lem : 65536 < length dump.now → Refuses (answer.Refused error.DumpTooLong)
+  pub too_long_lem : 65536 < length dump.now → Refuses (Err error.DumpTooLong)
   too_long_lem h =
       let e = scanned_long dump.now (length list.now) h in
-      (answer_injective x (answer.Refused error.DumpTooLong) (p.answers ∙ ap outcome e), p.leaves ∙ ap (after list.now) e)
+      (answer_injective x (Err error.DumpTooLong) (p.answers ∙ ap outcome e), p.leaves ∙ ap (after list.now) e)
 
-  pub no_room : length dump.now ≤ 65536 → length list.now < length (rows 0 (cut dump.now)) → Refuses (answer.Refused error.RangeListFull)
+  pub no_room : length dump.now ≤ 65536 → length list.now < length (rows 0 (cut dump.now)) → Refuses (Err error.RangeListFull)
   no_room h k =
       let e = scanned_full dump.now (length list.now) h k in
-      (answer_injective x (answer.Refused error.RangeListFull) (p.answers ∙ ap outcome e), p.leaves ∙ ap (after list.now) e)
+      (answer_injective x (Err error.RangeListFull) (p.answers ∙ ap outcome e), p.leaves ∙ ap (after list.now) e)
 
   -- 22 exactly then, and later entries stay: one that wants room for a range more; one that ends the list with a zero
   pub with_room : length dump.now ≤ 65536 → length (rows 0 (cut dump.now)) ≤ length list.now → Lists (length (cut dump.now)) (rows 0 (cut dump.now))
   with_room h k =
       let e = scanned-listed dump.now (length list.now) h k in
-      (answer_injective x (answer.Ranges (length (cut dump.now))) (p.answers ∙ ap outcome e), p.leaves ∙ ap (after list.now) e)
+      (answer_injective x (Ok (length (cut dump.now))) (p.answers ∙ ap outcome e), p.leaves ∙ ap (after list.now) e)
 
   -- one that goes on a byte after the start of what it keeps: it would list the frame inside
   pub frame-inside : dump.now ≡ hex "AA 00 07 AA 00 02 00 71 55 AA 55" → 3 ≤ length list.now → Lists 1 (0 ∷ 11 ∷ 1 ∷ [])
@@ -85,16 +84,16 @@ module _ (κs : Lfts 1) (list : Bor (List ℕ)) (e : list.now ≡ three) where
     past_the_rows p = rw e at p
 
   -- one that gives a skipped range, or stays at the one that it gave; one that looks at rows after the last range
-  module _ (x : KeptStep) (i : AtExit (ended_of 1 next-kept.Kinds.ps next-kept.Kinds.r) κs) where
-    pub kept_and_after : next-kept.Reads.Post κs (list, (3, (0, tt))) x i → x ≡ step.Kept 1 6 2
+  module _ (x : Option Kept) (i : AtExit (ended_of 1 next-kept.Kinds.ps next-kept.Kinds.r) κs) where
+    pub kept_and_after : next-kept.Reads.Post κs (list, (3, (0, tt))) x i → x ≡ Some (record { start = 1; len = 6; next = 2 })
     unfolding kept_of
     kept_and_after p = rw e at p
 
-    pub no-more-kept : next-kept.Reads.Post κs (list, (3, (2, tt))) x i → x ≡ step.End
+    pub no-more-kept : next-kept.Reads.Post κs (list, (3, (2, tt))) x i → x ≡ None
     unfolding kept_of
     no-more-kept p = rw e at p
 
-    pub count-ends : next-kept.Reads.Post κs (list, (1, (0, tt))) x i → x ≡ step.End
+    pub count-ends : next-kept.Reads.Post κs (list, (1, (0, tt))) x i → x ≡ None
     unfolding kept_of
     count-ends p = rw e at p
 

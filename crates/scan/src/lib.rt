@@ -16,24 +16,17 @@ pub enum ScanError {
     DumpTooLong,
 }
 
-#[derive(Clone, Copy)]
-pub enum ScanAnswer {
-    // How many ranges.
-    Ranges(usize),
-    Refused(ScanError),
-}
-
-// Three numbers a range: start, length, kept (1) or skipped (0). Entries after the last range stay as they were.
-pub fn scan(dump: &[u8], list: &mut [u32]) -> ScanAnswer
+// How many ranges the dump has. Three numbers a range: start, length, kept (1) or skipped (0). Entries after the last range stay as they were.
+pub fn scan(dump: &[u8], list: &mut [u32]) -> Result<usize, ScanError>
     ensures { Scans dump.now list.old result list.new }
 {
     if 65536 < dump.len() {
-        return ScanAnswer::Refused(ScanError::DumpTooLong);
+        return Err(ScanError::DumpTooLong);
     }
     let n = count(dump);
     if list.len() < n * 3 {
-        return ScanAnswer::Refused(ScanError::RangeListFull);
+        return Err(ScanError::RangeListFull);
     }
     fill(dump, list);
-    ScanAnswer::Ranges(n)
+    Ok(n)
 }

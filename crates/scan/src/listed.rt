@@ -11,13 +11,10 @@ pub struct Listed {
 
 // A range that is kept, whose bytes are `text::bytes::part(dump, start, len)`, and the number of the range after it.
 #[derive(Clone, Copy)]
-pub enum KeptStep {
-    Kept {
-        start: usize,
-        len: usize,
-        next: usize,
-    },
-    End,
+pub struct Kept {
+    pub start: usize,
+    pub len: usize,
+    pub next: usize,
 }
 
 fn number(list: &[u32], k: usize) -> usize
@@ -45,7 +42,7 @@ pub fn range_at(list: &[u32], i: usize) -> Listed
 }
 
 // The first range from `i` on that is kept, of a list of `count` ranges.
-pub fn next_kept(list: &[u32], count: usize, i: usize) -> KeptStep
+pub fn next_kept(list: &[u32], count: usize, i: usize) -> Option<Kept>
     ensures { result ≡ next_kept list.now count i }
 {
     let mut at = i;
@@ -53,12 +50,12 @@ pub fn next_kept(list: &[u32], count: usize, i: usize) -> KeptStep
         let r = range_at(list, at);
         at += 1;
         if r.kept {
-            return KeptStep::Kept {
+            return Some(Kept {
                 start: r.start,
                 len: r.len,
                 next: at,
-            };
+            });
         }
     }
-    KeptStep::End
+    None
 }
