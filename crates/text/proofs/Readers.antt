@@ -12,7 +12,7 @@ use denote.Struct.Field.{u8-field, u16-field, u32-field}
 use denote.Struct.Laws.{u8-laws, u8-copy, u16-laws, u16-copy, u32-laws, u32-copy}
 use borrow.Fn.Kinds.{ParamKind, ResultKind, Out}
 use Rattle.std.specs.Prelude.{Result, Ok, Err}
-use Rattle.text.specs.Number.{Num, some, none, shown}
+use Rattle.text.specs.Number.{shown}
 use Rattle.text.specs.declared.number.NumberError.{NumberError}
 use Rattle.text.specs.declared.number.Width as Width
 use Rattle.text.specs.contracts.number.U8Width.TheImpl as eight

@@ -1,7 +1,7 @@
 // One call, and one line that says what it was given and what it answered.
-use crate::show::{found, hex, line, number, quoted, refused, say, wrote, yes_or_no};
-use text::field::{Fields, Next};
-use text::number::{Number8, Number16, Number32};
+use crate::show::{found, hex, line, number, number_or_why, quoted, say, wrote, yes_or_no};
+use text::field::Fields;
+use text::number::NumberError;
 
 pub(crate) fn valid(rt: &(impl Print + Eprint), s: &[u8]) {
     say(rt, b"valid_up_to");
@@ -27,57 +27,44 @@ pub(crate) fn inside(rt: &(impl Print + Eprint), s: &[u8], place: usize) {
     yes_or_no(rt, text::utf8::inside_character(s, place));
 }
 
-pub(crate) fn in_8_bits(rt: &(impl Print + Eprint), s: &[u8]) {
-    say(rt, b"read8 ");
+fn answered(rt: &(impl Print + Eprint), call: &[u8], s: &[u8], n: Result<usize, NumberError>) {
+    say(rt, call);
     quoted(rt, s);
     say(rt, b": ");
-    match text::number::read8(s) {
-        Number8::Value(n) => number(rt, n as usize),
-        Number8::Refused(e) => refused(rt, e),
-    }
-    line(rt);
-}
-
-pub(crate) fn in_16_bits(rt: &(impl Print + Eprint), s: &[u8]) {
-    say(rt, b"read16 ");
-    quoted(rt, s);
-    say(rt, b": ");
-    match text::number::read16(s) {
-        Number16::Value(n) => number(rt, n as usize),
-        Number16::Refused(e) => refused(rt, e),
-    }
-    line(rt);
-}
-
-pub(crate) fn in_32_bits(rt: &(impl Print + Eprint), s: &[u8]) {
-    say(rt, b"read32 ");
-    quoted(rt, s);
-    say(rt, b": ");
-    match text::number::read32(s) {
-        Number32::Value(n) => number(rt, n as usize),
-        Number32::Refused(e) => refused(rt, e),
-    }
-    line(rt);
+    number_or_why(rt, n);
 }
 
 // Every width on one text.
 pub(crate) fn read(rt: &(impl Print + Eprint), s: &[u8]) {
-    in_8_bits(rt, s);
-    in_16_bits(rt, s);
-    in_32_bits(rt, s);
+    answered(
+        rt,
+        b"read8 ",
+        s,
+        text::number::read::<u8>(s).map(usize::from),
+    );
+    answered(
+        rt,
+        b"read16 ",
+        s,
+        text::number::read::<u16>(s).map(usize::from),
+    );
+    answered(
+        rt,
+        b"read32 ",
+        s,
+        text::number::read::<u32>(s).map(|n| n as usize),
+    );
 }
 
 // The field at a place, and the place that the walk stands at afterwards.
 fn field(rt: &(impl Print + Eprint), s: &[u8], at: usize) -> usize {
-    match Fields::from(at).next(s) {
-        Next::Field { start, len, rest } => {
-            say(rt, b" ");
-            number(rt, start);
-            quoted(rt, text::bytes::part(s, start, len));
-            rest.at
-        }
-        Next::Done => at,
-    }
+    let Some(next) = Fields::from(at).next(s) else {
+        return at;
+    };
+    say(rt, b" ");
+    number(rt, next.start);
+    quoted(rt, text::bytes::part(s, next.start, next.len));
+    next.rest.at
 }
 
 // The first eight fields from a place on, each after its place.
@@ -88,10 +75,8 @@ pub(crate) fn fields(rt: &(impl Print + Eprint), s: &[u8], from: usize) {
     number(rt, from);
     say(rt, b":");
     let mut at = from;
-    let mut turns: usize = 0;
-    while turns < 8 {
+    for _ in 0..8 {
         at = field(rt, s, at);
-        turns += 1;
     }
     line(rt);
 }
@@ -119,41 +104,28 @@ pub(crate) fn colon(rt: &(impl Print + Eprint), s: &[u8]) {
     found(rt, text::find::first_byte(s, 0, b':'));
 }
 
-// Dots, and what is written over them.
-pub(crate) fn long_in_decimal(rt: &(impl Print + Eprint), n: u32, at: usize) {
-    let mut buf = [b'.'; 12];
-    say(rt, b"write32 ");
+// A number written over dots.
+fn over(rt: &(impl Print + Eprint), call: &[u8], dots: &mut [u8], n: u32, at: usize) {
+    say(rt, call);
     number(rt, n as usize);
     say(rt, b" at ");
     number(rt, at);
     say(rt, b": ");
-    wrote(rt, text::decimal::write32(&mut buf, at, n));
-    quoted(rt, &buf);
+    wrote(rt, text::decimal::write(dots, at, n));
+    quoted(rt, dots);
     line(rt);
+}
+
+pub(crate) fn long_in_decimal(rt: &(impl Print + Eprint), n: u32, at: usize) {
+    over(rt, b"write32 ", &mut [b'.'; 12], n, at);
 }
 
 pub(crate) fn in_decimal(rt: &(impl Print + Eprint), n: u16, at: usize) {
-    let mut buf = [b'.'; 8];
-    say(rt, b"write16 ");
-    number(rt, n as usize);
-    say(rt, b" at ");
-    number(rt, at);
-    say(rt, b": ");
-    wrote(rt, text::decimal::write16(&mut buf, at, n));
-    quoted(rt, &buf);
-    line(rt);
+    over(rt, b"write16 ", &mut [b'.'; 8], u32::from(n), at);
 }
 
 pub(crate) fn byte_in_decimal(rt: &(impl Print + Eprint), n: u8, at: usize) {
-    let mut buf = [b'.'; 8];
-    say(rt, b"write8 ");
-    number(rt, n as usize);
-    say(rt, b" at ");
-    number(rt, at);
-    say(rt, b": ");
-    wrote(rt, text::decimal::write8(&mut buf, at, n));
-    quoted(rt, &buf);
-    line(rt);
+    over(rt, b"write8 ", &mut [b'.'; 8], u32::from(n), at);
 }
 
 pub(crate) fn put(rt: &(impl Print + Eprint), s: &[u8], at: usize) {

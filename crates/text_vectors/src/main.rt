@@ -9,7 +9,7 @@ use crate::calls::{
     byte_in_decimal, colon, fields, first, in_decimal, inside, last, long_in_decimal, part, put,
     read, same, starts, valid, whole,
 };
-use crate::show::say;
+use crate::show::said;
 use std::env::{Env, FillError};
 
 // The first and the last sequence of each row, and the nearest ones outside it.
@@ -167,7 +167,7 @@ fn run(rt: &(impl Print + Eprint + Env)) {
         let _ = eprintln!(rt; "text_vectors: takes no argument");
         return;
     }
-    if !say(rt, b"# What the text functions answer\n") {
+    if !said(rt, b"# What the text functions answer\n") {
         return;
     }
     one_byte(rt);

@@ -1,10 +1,8 @@
 // What the program writes: texts, bytes in hex, numbers, answers.
-use text::find::Found;
 use text::number::NumberError;
-use text::put::Wrote;
 
 // Whether all of `s` was written. Where it was not, a line on standard error says why.
-pub(crate) fn say(rt: &(impl Print + Eprint), s: &[u8]) -> bool {
+pub(crate) fn said(rt: &(impl Print + Eprint), s: &[u8]) -> bool {
     match rt.write_all(s) {
         Ok(()) => true,
         Err(e) => {
@@ -12,6 +10,10 @@ pub(crate) fn say(rt: &(impl Print + Eprint), s: &[u8]) -> bool {
             false
         }
     }
+}
+
+pub(crate) fn say(rt: &(impl Print + Eprint), s: &[u8]) {
+    said(rt, s);
 }
 
 pub(crate) fn number(rt: &(impl Print + Eprint), n: usize) {
@@ -31,11 +33,7 @@ pub(crate) fn quoted(rt: &(impl Print + Eprint), s: &[u8]) {
 }
 
 pub(crate) fn yes_or_no(rt: &(impl Print + Eprint), b: bool) {
-    if b {
-        say(rt, b"yes\n");
-    } else {
-        say(rt, b"no\n");
-    }
+    say(rt, if b { b"yes\n" } else { b"no\n" });
 }
 
 fn digit(n: u8) -> u8 {
@@ -48,52 +46,39 @@ fn digit(n: u8) -> u8 {
 
 // Each byte as a space and two digits.
 pub(crate) fn hex(rt: &(impl Print + Eprint), s: &[u8]) {
-    let mut i = 0;
-    while i < s.len() {
-        let b = s[i];
-        let two = [b' ', digit(b / 16), digit(b % 16)];
-        say(rt, &two);
-        i += 1;
+    for &b in s {
+        say(rt, &[b' ', digit(b / 16), digit(b % 16)]);
     }
 }
 
-// Why a text is no number.
-pub(crate) fn refused(rt: &(impl Print + Eprint), e: NumberError) {
-    match e {
-        NumberError::Empty => {
-            say(rt, b"refused empty");
-        }
-        NumberError::Byte => {
-            say(rt, b"refused byte");
-        }
-        NumberError::Large => {
-            say(rt, b"refused large");
-        }
-    }
-}
-
-pub(crate) fn found(rt: &(impl Print + Eprint), f: Found) {
-    match f {
-        Found::At(i) => {
-            say(rt, b"at ");
-            number(rt, i);
-        }
-        Found::Nothing => {
-            say(rt, b"nothing");
-        }
+// A number, or why a text is none.
+pub(crate) fn number_or_why(rt: &(impl Print + Eprint), n: Result<usize, NumberError>) {
+    match n {
+        Ok(n) => number(rt, n),
+        Err(NumberError::Empty) => say(rt, b"refused empty"),
+        Err(NumberError::Byte) => say(rt, b"refused byte"),
+        Err(NumberError::Large) => say(rt, b"refused large"),
     }
     line(rt);
 }
 
-pub(crate) fn wrote(rt: &(impl Print + Eprint), w: Wrote) {
-    match w {
-        Wrote::To(end) => {
-            say(rt, b"to ");
-            number(rt, end);
+// A place after its word, or what is said where there is none.
+fn place(rt: &(impl Print + Eprint), word: &[u8], p: Option<usize>, none: &[u8]) {
+    match p {
+        Some(i) => {
+            say(rt, word);
+            number(rt, i);
         }
-        Wrote::NoRoom => {
-            say(rt, b"no room");
-        }
+        None => say(rt, none),
     }
+}
+
+pub(crate) fn found(rt: &(impl Print + Eprint), p: Option<usize>) {
+    place(rt, b"at ", p, b"nothing");
+    line(rt);
+}
+
+pub(crate) fn wrote(rt: &(impl Print + Eprint), p: Option<usize>) {
+    place(rt, b"to ", p, b"no room");
     say(rt, b", ");
 }

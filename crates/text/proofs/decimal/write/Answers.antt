@@ -8,7 +8,7 @@ use lib.ListN.{length}
 use borrow.Author.Tests.{leb-true, leb-false}
 use Rattle.text.specs.Decimal.{decimal}
 use Rattle.text.specs.Put.{placed, wrote, after}
-use Rattle.std.specs.Prelude.{Option, Some, None}
+use Rattle.std.specs.Prelude.{Some, None}
 use Rattle.text.proofs.PutLaws.{room, no_room}
 use Rattle.text.proofs.decimal.write.Goals as goal
 

@@ -1,7 +1,7 @@
 use mathlib.Core.Path.{◌≡◌, sym, ◌∙◌, ap}
-use Prim.Native.Nat.{ℕ, ◌^◌, ◌<◌}
+use Prim.Native.Nat.{ℕ, ◌^◌}
 use mathlib.Core.List.{List}
-use Rattle.text.specs.Number.{Num, number, signed, some, none}
+use Rattle.text.specs.Number.{Num, number, signed, some}
 use Rattle.text.specs.NumberSteps.{spelt}
 use Rattle.text.proofs.NumberLaws.{number_fits}
 use Rattle.text.proofs.number.read.Goals as goal
