@@ -10,12 +10,12 @@ use lib.Seq.{drop-drop}
 use borrow.Author.Tests.{lt-ltb, le-ltb, ltb-false}
 use Rattle.text.specs.Bytes.{part}
 use Rattle.text.specs.Find.{first_of, first_from}
-use Rattle.text.specs.declared.find.Found.TheVariants.{At, Nothing}
+use Rattle.std.specs.Prelude.{Some, None}
 use Rattle.text.proofs.FindLaws.{from_at}
 use Rattle.lines.specs.Cut.{cut, whole, cut_at}
 
 module _ (mark s : List ℕ) (from : ℕ) where
-  pub cut_there : (i : ℕ) → first_from mark s from ≡ At i → cut_at mark (drop from s) ≡ cut (part s from (i - from)) (drop (i + 1) s)
+  pub cut_there : (i : ℕ) → first_from mark s from ≡ Some i → cut_at mark (drop from s) ≡ cut (part s from (i - from)) (drop (i + 1) s)
   unfolding cut_at part
   cut_there i e =
       let f = from_at mark s from i e in
@@ -23,11 +23,11 @@ module _ (mark s : List ℕ) (from : ℕ) where
       let n : from + (first_of mark (drop from s) + 1) ≡ i + 1 = omega (arith, f.0) in
       rw (lt-ltb (first_of mark (drop from s)) (length (drop from s)) (omega (arith, f.0, f.1, length-drop from s)), drop-drop (first_of mark (drop from s) + 1) from s, n, k)
 
-  pub cut-nowhere : first_from mark s from ≡ Nothing → cut_at mark (drop from s) ≡ whole
+  pub cut-nowhere : first_from mark s from ≡ None → cut_at mark (drop from s) ≡ whole
   unfolding first_from cut_at
   cut-nowhere e = go (ltb (from + first_of mark (drop from s)) (length s)) refl e
     where
-      go : (k : Bool) → ltb (from + first_of mark (drop from s)) (length s) ≡ k → cond k (At (from + first_of mark (drop from s))) Nothing ≡ Nothing
+      go : (k : Bool) → ltb (from + first_of mark (drop from s)) (length s) ≡ k → cond k (Some (from + first_of mark (drop from s))) None ≡ None
           → cond (ltb (first_of mark (drop from s)) (length (drop from s))) (cut (take (first_of mark (drop from s)) (drop from s)) (drop (first_of mark (drop from s) + 1) (drop from s))) whole ≡ whole
       go true q e = let z : ◌≡◌ {A = ℕ} 0 1 = cc in absurd (omega arith)
       go false q e = rw (le-ltb (first_of mark (drop from s)) (length (drop from s)) (omega (arith, length-drop from s, ltb-false (from + first_of mark (drop from s)) (length s) q)))

@@ -9,7 +9,8 @@ use lib.ListN.{length, drop, get_or}
 use lib.Seq.{take_at}
 use borrow.Author.Tests.{ltb-true, leb-true, leb-false}
 use Rattle.text.specs.Bytes.{bytes, same, part}
-use Rattle.lines.specs.declared.hex.Decoded.TheVariants.{Bytes, NoHex, NoRoom}
+use Rattle.std.specs.Prelude.{Ok, Err}
+use Rattle.lines.specs.declared.hex.HexError.TheVariants.{NoHex, NoRoom}
 use Rattle.lines.specs.Hex.{digit_of, is_digit, Spelt, spells, no_hex, prepend, pairs, some_bytes, bytes_in, answer, after}
 
 -- The bytes that a text spells, of two digits each; none where it is no hex
@@ -63,38 +64,38 @@ bytes-spelt hex = go (same hex (bytes "-")) (pairs hex) (pairs_spell hex)
 -- The cases of an answer, and what is then spelt
 
 module _ (buf exit : List ℕ) (r : Spelt) where
-  pub decoded_bytes : (n : ℕ) → Bytes n ≡ answer (length buf) r → exit ≡ after buf r → r ≡ spells (part exit 0 n)
+  pub decoded_bytes : (n : ℕ) → Ok n ≡ answer (length buf) r → exit ≡ after buf r → r ≡ spells (part exit 0 n)
   unfolding part
   decoded_bytes n e x = go r e x
     where
-      go : (r : Spelt) → Bytes n ≡ answer (length buf) r → exit ≡ after buf r → r ≡ spells (part exit 0 n)
+      go : (r : Spelt) → Ok n ≡ answer (length buf) r → exit ≡ after buf r → r ≡ spells (part exit 0 n)
       go (spells y) e x = fits (leb (length y) (length buf)) e x
         where
-          fits : (k : Bool) → Bytes n ≡ cond k (Bytes (length y)) NoRoom → exit ≡ cond k (y ++ drop (length y) buf) buf → spells y ≡ spells (part exit 0 n)
+          fits : (k : Bool) → Ok n ≡ cond k (Ok (length y)) (Err NoRoom) → exit ≡ cond k (y ++ drop (length y) buf) buf → spells y ≡ spells (part exit 0 n)
           fits true e x = let l : n ≡ length y = cc in ap spells (sym (rw (x, l) (take_at y (drop (length y) buf) (length y) refl)))
           fits false e x = let z : ◌≡◌ {A = ℕ} 0 1 = cc in absurd (omega arith)
       go no_hex e x = let z : ◌≡◌ {A = ℕ} 0 1 = cc in absurd (omega arith)
 
-pub decoded_fits : (room n : ℕ) (r : Spelt) → Bytes n ≡ answer room r → length (bytes_of r) ≤ room
+pub decoded_fits : (room n : ℕ) (r : Spelt) → Ok n ≡ answer room r → length (bytes_of r) ≤ room
 decoded_fits room n (spells y) e = go (leb (length y) room) refl e
   where
-    go : (k : Bool) → leb (length y) room ≡ k → Bytes n ≡ cond k (Bytes (length y)) NoRoom → length y ≤ room
+    go : (k : Bool) → leb (length y) room ≡ k → Ok n ≡ cond k (Ok (length y)) (Err NoRoom) → length y ≤ room
     go true k e = leb-true (length y) room k
     go false k e = let z : ◌≡◌ {A = ℕ} 0 1 = cc in absurd (omega arith)
 decoded_fits room n no_hex e = omega arith
 
-pub decoded_no-hex : (room : ℕ) (r : Spelt) → NoHex ≡ answer room r → r ≡ no_hex
+pub decoded_no-hex : (room : ℕ) (r : Spelt) → Err NoHex ≡ answer room r → r ≡ no_hex
 decoded_no-hex room (spells y) e = go (leb (length y) room) e
   where
-    go : (k : Bool) → NoHex ≡ cond k (Bytes (length y)) NoRoom → spells y ≡ no_hex
+    go : (k : Bool) → Err NoHex ≡ cond k (Ok (length y)) (Err NoRoom) → spells y ≡ no_hex
     go true e = let z : ◌≡◌ {A = ℕ} 0 1 = cc in absurd (omega arith)
     go false e = let z : ◌≡◌ {A = ℕ} 0 1 = cc in absurd (omega arith)
 decoded_no-hex room no_hex e = refl
 
-pub decoded_no-room : (room : ℕ) (r : Spelt) → NoRoom ≡ answer room r → room < length (bytes_of r)
+pub decoded_no-room : (room : ℕ) (r : Spelt) → Err NoRoom ≡ answer room r → room < length (bytes_of r)
 decoded_no-room room (spells y) e = go (leb (length y) room) refl e
   where
-    go : (k : Bool) → leb (length y) room ≡ k → NoRoom ≡ cond k (Bytes (length y)) NoRoom → room < length y
+    go : (k : Bool) → leb (length y) room ≡ k → Err NoRoom ≡ cond k (Ok (length y)) (Err NoRoom) → room < length y
     go true k e = let z : ◌≡◌ {A = ℕ} 0 1 = cc in absurd (omega arith)
     go false k e = leb-false (length y) room k
 decoded_no-room room no_hex e = let z : ◌≡◌ {A = ℕ} 0 1 = cc in absurd (omega arith)

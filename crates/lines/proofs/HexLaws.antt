@@ -1,90 +1,108 @@
--- Laws of bytes in hex: which bytes are digits, a step over a space or over the two digits of a byte, and the bytes counted and put.
-use Prim.Native.Nat.{ℕ, suc, ◌+◌, ◌*◌, ◌-◌, ◌≤◌, ◌<◌}
-use mathlib.Core.Path.{◌≡◌, refl, sym, ap, ◌∙◌}
-use mathlib.Core.List.{List, [], ◌∷◌, ◌++◌, append-nil, append_assoc}
-use mathlib.Core.Bool.{Bool, true, false, cond, ◌&&◌}
+-- Laws of bytes in hex: spaces are passed over, the two digits of a byte, and the bytes counted and put.
+use Rattle.std.proofs.Common.{ℕ, suc, ◌+◌, ◌*◌, ◌-◌, ◌≤◌, ◌<◌, ◌≡◌, refl, sym, ap, ◌∙◌, List, [], ◌∷◌, ◌++◌, Bool, true, false, cond, not, ◌&&◌, ◌==◌, nat_lt, Some, None, Ok, Err, arith, length, take, drop, get_or, set, length-append, length-drop}
+use mathlib.Core.List.{append-nil, append_assoc}
 use native.Mathlib.Numerals.{add-one}
-use native.Mathlib.Omega.{arith}
-use lib.Dec.{leb}
-use lib.ListN.{length, take, drop, get_or, set, drop_of_length-le, length-append, take-append-drop}
-use lib.Seq.{drop-cons, take-suc-set, length-take-le, drop-drop}
-use borrow.Author.Tests.{leb-true, le-leb, lt-leb, lt-ltb, le-ltb, ne_eqb}
+use lib.ListN.{drop_of_length-le, take-append-drop}
+use lib.Seq.{take-suc-set, length-take-le, drop-drop, take_all, get_or-drop}
+use borrow.Author.Tests.{le-leb, lt-leb, ltb-true, ltb-false}
+use Rattle.std.specs.List.{position, position_or_len}
+use Rattle.std.proofs.lemmas.Bool.{eqb-true}
+use Rattle.std.proofs.lemmas.List.Quantifiers.{position-Some}
 use Rattle.text.specs.Bytes.{bytes, same}
-use Rattle.lines.specs.declared.hex.Step.{Step}
-use Rattle.lines.specs.declared.hex.Step.TheVariants as step
-use Rattle.lines.specs.declared.hex.Counted.TheVariants as count
-use Rattle.lines.specs.declared.hex.Decoded.TheVariants as decoded
-use Rattle.lines.specs.Steps.{Later, counted}
+use Rattle.lines.specs.declared.hex.HexError.{HexError}
+use Rattle.lines.specs.declared.hex.HexError.TheVariants.{NoHex, NoRoom}
+use Rattle.lines.specs.Steps.{no_space, counted}
 use Rattle.lines.specs.Hex.{digit_of, is_digit, Spelt, spells, no_hex, prepend, pairs, some_bytes, bytes_in, answer, after}
 
--- A byte within or outside a range of digits
+-- The spaces before a byte
 
-within : (lo hi b : ℕ) → lo ≤ b → b ≤ hi → leb lo b && leb b hi ≡ true
-within lo hi b p q = rw (le-leb lo b p, le-leb b hi q)
+abbrev spaces : List ℕ → ℕ
+spaces s = position_or_len no_space s
 
-outside : (lo hi b : ℕ) → (lo ≤ b → hi < b) → leb lo b && leb b hi ≡ false
-outside lo hi b h = go (leb lo b) refl
+space-first : (s : List ℕ) → pairs (32 ∷ s) ≡ pairs s
+unfolding pairs
+space-first [] = refl
+space-first (c ∷ s) = refl
+
+past_spaces : (s : List ℕ) → pairs s ≡ pairs (drop (spaces s) s)
+past_spaces [] = refl
+past_spaces (a ∷ s) = go (a == 32) refl (past_spaces s)
   where
-    go : (k : Bool) → leb lo b ≡ k → k && leb b hi ≡ false
-    go true e = lt-leb b hi (h (leb-true lo b e))
-    go false e = refl
+    go : (k : Bool) → (a == 32) ≡ k → pairs s ≡ pairs (drop (spaces s) s) → pairs (a ∷ s) ≡ pairs (drop (cond (not (not k)) (1 + spaces s) 0) (a ∷ s))
+    go true e h = let z : 1 + spaces s ≡ suc (spaces s) = omega arith in rw (z, eqb-true a 32 e) (space-first s ∙ h)
+    go false e h = refl
 
-module _ (b : ℕ) where
-  pub digit-decimal : 48 ≤ b → b ≤ 57 → digit_of b ≡ b - 48
-  digit-decimal p q = rw (within 48 57 b p q)
+pub spaces_alone : (s : List ℕ) → None ≡ position no_space s → spells [] ≡ pairs s
+unfolding pairs
+spaces_alone s e = go (nat_lt (spaces s) (length s)) refl e
+  where
+    go : (k : Bool) → nat_lt (spaces s) (length s) ≡ k → None ≡ cond k (Some (spaces s)) None → spells [] ≡ pairs s
+    go true h e = let z : ◌≡◌ {A = ℕ} 0 1 = cc in absurd (omega arith)
+    go false h e = sym (past_spaces s ∙ rw (drop_of_length-le s {i = spaces s} (ltb-false (spaces s) (length s) h)) refl)
 
-  pub digit_upper : 65 ≤ b → b ≤ 70 → digit_of b ≡ b - 65 + 10
-  digit_upper p q = rw (outside 48 57 b (λ h. omega arith), within 65 70 b p q)
+-- the text from the first byte on that is no space, as it is cut
+pub spaces-before : (s : List ℕ) (i : ℕ) → Some i ≡ position no_space s
+    → (no_space (get_or (take (length s - i) (drop i s)) 0 0) ≡ true) × (0 < length (take (length s - i) (drop i s))) × (pairs (take (length s - i) (drop i s)) ≡ pairs s)
+spaces-before s i e =
+    let d = length-drop i s in
+    let f = position-Some no_space s i 0 (sym e) in
+    let k : take (length s - i) (drop i s) ≡ drop i s = take_all (length s - i) (drop i s) (omega (arith, d)) in
+    let z : i + 0 ≡ i = omega arith in
+    rw k (ap no_space (get_or-drop i s 0 0) ∙ ap (λ (j : ℕ). no_space (get_or s j 0)) z ∙ f.1, omega (arith, d, f.0), ap (λ (j : ℕ). pairs (drop j s)) (go (nat_lt (spaces s) (length s)) e) ∙ sym (past_spaces s))
+  where
+    go : (k : Bool) → Some i ≡ cond k (Some (spaces s)) None → i ≡ spaces s
+    go true e = cc
+    go false e = let z : ◌≡◌ {A = ℕ} 0 1 = cc in absurd (omega arith)
 
-  pub digit_lower : 97 ≤ b → b ≤ 102 → digit_of b ≡ b - 97 + 10
-  digit_lower p q = rw (outside 48 57 b (λ h. omega arith), outside 65 70 b (λ h. omega arith), within 97 102 b p q)
+-- The first two bytes of a text, of which the first is no space
 
-  pub digit-none : (48 ≤ b → 57 < b) → (65 ≤ b → 70 < b) → (97 ≤ b → 102 < b) → digit_of b ≡ 16
-  digit-none p q r = rw (outside 48 57 b p, outside 65 70 b q, outside 97 102 b r)
-
--- The text from a place on
-
-module _ (s : List ℕ) (i : ℕ) where
-  pub pairs_end : length s ≤ i → pairs (drop i s) ≡ spells []
+module _ (t : List ℕ) (n : no_space (get_or t 0 0) ≡ true) where
+  pub pairs_single : 0 < length t → length t < 2 → no_hex ≡ pairs t
   unfolding pairs
-  pairs_end h = rw (drop_of_length-le s {i = i} h)
-
-  module _ (h : i < length s) where
-    pub pairs_space : get_or s i 0 ≡ 32 → pairs (drop i s) ≡ pairs (drop (i + 1) s)
-    unfolding pairs
-    pairs_space e = rw (add-one i, drop-cons s i 0 h, e) (go (drop (suc i) s))
-      where
-        go : (t : List ℕ) → pairs (32 ∷ t) ≡ pairs t
-        go [] = refl
-        go (c ∷ t) = refl
-
-    -- one byte that is no space, and no byte after it
-    pub pairs_single : (get_or s i 0 ≡ 32 → ⊥) → length s - i < 2 → pairs (drop i s) ≡ no_hex
-    unfolding pairs
-    pairs_single n l = rw (drop-cons s i 0 h, drop_of_length-le s {i = suc i} (omega arith), ne_eqb (get_or s i 0) 32 n)
-
-    module _ (n : get_or s i 0 ≡ 32 → ⊥) (l : 2 ≤ length s - i) where
-      two : pairs (drop i s)
-          ≡ cond (is_digit (get_or s i 0) && is_digit (get_or s (i + 1) 0)) (prepend ((digit_of (get_or s i 0) * 16 + digit_of (get_or s (i + 1) 0)) ∷ []) (pairs (drop (i + 2) s))) no_hex
-      unfolding pairs
-      two =
-          let z : i + 2 ≡ suc (suc i) = omega arith in
-          rw (z, add-one i, drop-cons s i 0 h, drop-cons s (suc i) 0 (omega arith), ne_eqb (get_or s i 0) 32 n)
-
-      pub pairs-digits : digit_of (get_or s i 0) ≤ 15 → digit_of (get_or s (i + 1) 0) ≤ 15
-          → pairs (drop i s) ≡ prepend ((digit_of (get_or s i 0) * 16 + digit_of (get_or s (i + 1) 0)) ∷ []) (pairs (drop (i + 2) s))
-      pairs-digits p q = two ∙ rw (lt-ltb (digit_of (get_or s i 0)) 16 (omega arith), lt-ltb (digit_of (get_or s (i + 1) 0)) 16 (omega arith))
-
-      pub pairs_first : 15 < digit_of (get_or s i 0) → pairs (drop i s) ≡ no_hex
-      pairs_first p = two ∙ rw (le-ltb (digit_of (get_or s i 0)) 16 (omega arith))
-
-      pub pairs_second : 15 < digit_of (get_or s (i + 1) 0) → pairs (drop i s) ≡ no_hex
-      pairs_second p = two ∙ go (is_digit (get_or s i 0)) (is_digit (get_or s (i + 1) 0)) (le-ltb (digit_of (get_or s (i + 1) 0)) 16 (omega arith))
+  pairs_single = go t n
+    where
+      go : (t : List ℕ) → no_space (get_or t 0 0) ≡ true → 0 < length t → length t < 2 → no_hex ≡ pairs t
+      go [] n h l = absurd (omega arith)
+      go (a ∷ []) n h l = one (a == 32) n
         where
-          go : (a b : Bool) → b ≡ false → cond (a && b) (prepend ((digit_of (get_or s i 0) * 16 + digit_of (get_or s (i + 1) 0)) ∷ []) (pairs (drop (i + 2) s))) no_hex ≡ no_hex
-          go true true e = let z : ◌≡◌ {A = ℕ} 0 1 = cc in absurd (omega arith)
-          go true false e = refl
-          go false b e = refl
+          one : (k : Bool) → not k ≡ true → no_hex ≡ cond k (spells []) no_hex
+          one true n = let z : ◌≡◌ {A = ℕ} 0 1 = cc in absurd (omega arith)
+          one false n = refl
+      go (a ∷ b ∷ s) n h l = absurd (omega arith)
+
+  -- what two bytes or more spell, by whether the first two are digits
+  pub pairs_two : 2 ≤ length t
+      → cond (is_digit (get_or t 0 0)) (cond (is_digit (get_or t 1 0)) (prepend ((digit_of (get_or t 0 0) * 16 + digit_of (get_or t 1 0)) ∷ []) (pairs (take (length t - 2) (drop 2 t)))) no_hex) no_hex ≡ pairs t
+  unfolding pairs
+  pairs_two = go t n
+    where
+      go : (t : List ℕ) → no_space (get_or t 0 0) ≡ true → 2 ≤ length t
+          → cond (is_digit (get_or t 0 0)) (cond (is_digit (get_or t 1 0)) (prepend ((digit_of (get_or t 0 0) * 16 + digit_of (get_or t 1 0)) ∷ []) (pairs (take (length t - 2) (drop 2 t)))) no_hex) no_hex ≡ pairs t
+      go [] n h = absurd (omega arith)
+      go (a ∷ []) n h = absurd (omega arith)
+      go (a ∷ b ∷ s) n h = rw (take_all (suc (suc (length s)) - 2) s (omega arith)) (two (a == 32) n (is_digit a))
+        where
+          two : (k : Bool) → not k ≡ true → (p : Bool)
+              → cond p (cond (is_digit b) (prepend ((digit_of a * 16 + digit_of b) ∷ []) (pairs s)) no_hex) no_hex
+              ≡ cond k (pairs (b ∷ s)) (cond (p && is_digit b) (prepend ((digit_of a * 16 + digit_of b) ∷ []) (pairs s)) no_hex)
+          two true n p = let z : ◌≡◌ {A = ℕ} 0 1 = cc in absurd (omega arith)
+          two false n true = refl
+          two false n false = refl
+
+-- a byte that is taken for a digit is one, and one that is refused is none
+pub digit-taken : (b d : ℕ) → Ok d ≡ cond (is_digit b) (Ok (digit_of b)) (Err NoHex) → (is_digit b ≡ true) × (d ≡ digit_of b) × (d < 16)
+digit-taken b d e = go (is_digit b) refl e
+  where
+    go : (k : Bool) → is_digit b ≡ k → Ok d ≡ cond k (Ok (digit_of b)) (Err NoHex) → (is_digit b ≡ true) × (d ≡ digit_of b) × (d < 16)
+    go true h e = let l : d ≡ digit_of b = cc in (h, l, omega (arith, ltb-true (digit_of b) 16 h))
+    go false h e = let z : ◌≡◌ {A = ℕ} 0 1 = cc in absurd (omega arith)
+
+pub digit-refused : (b : ℕ) (x : HexError) → Err x ≡ cond (is_digit b) (Ok (digit_of b)) (Err NoHex) → (is_digit b ≡ false) × (x ≡ NoHex)
+digit-refused b x e = go (is_digit b) refl e
+  where
+    go : (k : Bool) → is_digit b ≡ k → Err x ≡ cond k (Ok (digit_of b)) (Err NoHex) → (is_digit b ≡ false) × (x ≡ NoHex)
+    go true h e = let z : ◌≡◌ {A = ℕ} 0 1 = cc in absurd (omega arith)
+    go false h e = (h, cc)
 
 -- Bytes before what is spelt
 
@@ -103,27 +121,20 @@ prepend_twice x y no_hex = refl
 pub prepend-put : (b : List ℕ) (n x : ℕ) (r : Spelt) → n < length b → prepend (take n b) (prepend (x ∷ []) r) ≡ prepend (take (n + 1) (set b n x)) r
 prepend-put b n x r h = prepend_twice (take n b) (x ∷ []) r ∙ rw (add-one n, take-suc-set b n x h)
 
--- A byte from a later place on is one from here on
-
-pub later-from : (at i room : ℕ) (x : Step) → at ≤ i → Later i room x → Later at room x
-later-from at i room (step.Byte v next) h k = (omega (arith, k.0), k.1)
-later-from at i room step.End h k = k
-later-from at i room step.NoHex h k = k
-
 -- The bytes that a text spells, counted
 
-pub counted_none : (n : ℕ) → counted n (spells []) ≡ count.Bytes n
-counted_none n = ap count.Bytes (let z : n + 0 ≡ n = omega arith in z)
+pub counted_none : (n : ℕ) → counted n (spells []) ≡ Ok n
+counted_none n = ap Ok (let z : n + 0 ≡ n = omega arith in z)
 
 pub counted-more : (n v : ℕ) (r : Spelt) → counted n (prepend (v ∷ []) r) ≡ counted (n + 1) r
-counted-more n v (spells x) = ap count.Bytes (let z : n + suc (length x) ≡ n + 1 + length x = omega arith in z)
+counted-more n v (spells x) = ap Ok (let z : n + suc (length x) ≡ n + 1 + length x = omega arith in z)
 counted-more n v no_hex = refl
 
-pub counted-no_hex : (r : Spelt) → count.NoHex ≡ counted 0 r → r ≡ no_hex
-counted-no_hex (spells x) e = let z : ◌≡◌ {A = ℕ} 0 1 = cc in absurd (omega arith)
-counted-no_hex no_hex e = refl
+pub counted-no_hex : (e : HexError) (r : Spelt) → Err e ≡ counted 0 r → (r ≡ no_hex) × (e ≡ NoHex)
+counted-no_hex e (spells x) q = let z : ◌≡◌ {A = ℕ} 0 1 = cc in absurd (omega arith)
+counted-no_hex e no_hex q = (refl, cc)
 
-pub counted-bytes : (n : ℕ) (r : Spelt) → count.Bytes n ≡ counted 0 r → (x : List ℕ) × (r ≡ spells x) × (length x ≡ n)
+pub counted-bytes : (n : ℕ) (r : Spelt) → Ok n ≡ counted 0 r → (x : List ℕ) × (r ≡ spells x) × (length x ≡ n)
 counted-bytes n (spells x) e = (x, refl, let z : n ≡ 0 + length x = cc in omega (arith, z))
 counted-bytes n no_hex e = let z : ◌≡◌ {A = ℕ} 0 1 = cc in absurd (omega arith)
 
@@ -164,10 +175,10 @@ module _ (b c : List ℕ) (n : ℕ) (h : n ≤ length c) (e : drop n c ≡ drop 
 -- What is put where there is room for it
 
 module _ (room : ℕ) (x : List ℕ) where
-  pub answer-room : length x ≤ room → answer room (spells x) ≡ decoded.Bytes (length x)
+  pub answer-room : length x ≤ room → answer room (spells x) ≡ Ok (length x)
   answer-room h = rw (le-leb (length x) room h)
 
-  pub answer_full : room < length x → answer room (spells x) ≡ decoded.NoRoom
+  pub answer_full : room < length x → answer room (spells x) ≡ Err NoRoom
   answer_full h = rw (lt-leb (length x) room h)
 
 module _ (b x : List ℕ) where

@@ -3,36 +3,22 @@
 use Prim.Native.Nat.{ℕ, ◌+◌, ◌-◌, ◌≤◌, ◌<◌, min}
 use mathlib.Core.Path.{◌≡◌, refl, sym, ap, ◌∙◌}
 use mathlib.Core.List.{List, [], ◌∷◌, ◌++◌}
-use mathlib.Core.Bool.{Bool, true, false, cond}
+use mathlib.Core.Bool.{Bool, true, false, cond, ◌&&◌}
 use native.Mathlib.Omega.{arith}
+use Rattle.std.specs.Prelude.{nat_le, nat_eq, Option, Some, None, unwrap_or, MatchOption, Result, Ok, Err, IfOk}
+use Rattle.std.specs.Cmp.Lexicographic.{pointwise}
+use denote.Ref.{Bor}
+use borrow.Author.Tests.{leb-true, leb-false}
 use native.Mathlib.Nat.{zero-add, min-le_left, min-le_right, min-eq_left}
-use native.Mathlib.Numerals.{add-one}
 use borrow.Rule.Slice.PartMut.{put_mid}
-use lib.ListN.{length, take, drop, get_or, set, length-take, length-drop, length-set}
-use lib.Seq.{paste, paste-suc, length-paste, drop-paste, get_or-drop, length-take-le, take_all, take_at, take-take}
+use lib.ListN.{length, take, drop, length-take, length-drop}
+use lib.Seq.{paste, length-take-le, take_all, take_at, take-take}
 use Rattle.text.specs.Bytes.{bytes, same, part}
-use Rattle.lines.specs.Input.{without_cr, with_front, ReadAfter}
+use Rattle.text.specs.Find.{first_from}
+use Rattle.text.proofs.FindLaws.{from_at}
+use Rattle.lines.specs.Input.{place_or, line_end, without_cr, with_front, ReadAfter, Reads}
 
 module _ (b : List ℕ) (start : ℕ) where
-  -- the bytes that are not yet overwritten are still there
-  later_there : (n k : ℕ) (c : List ℕ) → n ≤ k → n ≤ length b - start → c ≡ paste b 0 (drop start b) n → get_or c k 0 ≡ get_or b k 0
-  later_there n k c h l e =
-      let d = length-drop start b in
-      let z = zero-add n in
-      let p : drop n c ≡ drop n b = ap (λ (j : ℕ). drop j c) (sym z) ∙ rw e (drop-paste b 0 (drop start b) n (omega arith) (omega arith)) ∙ ap (λ (j : ℕ). drop j b) z in
-      let q : n + (k - n) ≡ k = omega arith in
-      ap (λ (j : ℕ). get_or c j 0) (sym q) ∙ sym (get_or-drop n c (k - n) 0) ∙ ap (λ (x : List ℕ). get_or x (k - n) 0) p ∙ get_or-drop n b (k - n) 0 ∙ ap (λ (j : ℕ). get_or b j 0) q
-
-  pub moved_more : (n from : ℕ) (c : List ℕ) → from ≡ start + n → from < length b → c ≡ paste b 0 (drop start b) n
-      → (set c n (get_or c from 0) ≡ paste b 0 (drop start b) (n + 1)) × (length (set c n (get_or c from 0)) ≡ length b)
-  moved_more n from c f h e =
-      let d = length-drop start b in
-      let v = later_there n from c (omega arith) (omega arith) e in
-      let w : get_or c from 0 ≡ get_or (drop start b) n 0 = v ∙ ap (λ (j : ℕ). get_or b j 0) f ∙ sym (get_or-drop start b n 0) in (
-        rw (w, e, add-one n) (ap (λ (j : ℕ). set (paste b 0 (drop start b) n) j (get_or (drop start b) n 0)) (sym (zero-add n)) ∙ paste-suc b 0 (drop start b) n 0 (omega arith) (omega arith)),
-        length-set c n (get_or c from 0) ∙ rw e (length-paste b 0 (drop start b) n (omega arith) (omega arith)),
-      )
-
   -- what stands at the front is a part of the buffer, and the rest of it is as it was
   fronted : (n : ℕ) (c p : List ℕ) → p ≡ take n (drop start b) → n ≤ length b - start → c ≡ paste b 0 (drop start b) n → (n ≡ length p) × (c ≡ with_front b p)
   fronted n c p q l e =
@@ -40,17 +26,24 @@ module _ (b : List ℕ) (start : ℕ) where
       let k : n ≡ length p = rw q (sym (length-take-le n (drop start b) (omega arith))) in
       (k, e ∙ ap (λ (j : ℕ). take n (drop start b) ++ drop j b) (zero-add n ∙ k) ∙ ap (λ (x : List ℕ). x ++ drop (length p) b) (sym q))
 
-  module _ (end n : ℕ) (c : List ℕ) where
-    pub moved_up_to : n ≤ length b - start → n ≡ end - start → c ≡ paste b 0 (drop start b) n → (n ≡ length (part b start (end - start))) × (c ≡ with_front b (part b start (end - start)))
-    unfolding part
-    moved_up_to l k e = fronted n c (take (end - start) (drop start b)) (ap (λ (j : ℕ). take j (drop start b)) (sym k)) l e
+  part_cut : (end : ℕ) → part b start (end - start) ≡ take (min end (length b) - start) (drop start b)
+  unfolding part
+  part_cut end = go (nat_le end (length b)) refl
+    where
+      go : (k : Bool) → nat_le end (length b) ≡ k → take (end - start) (drop start b) ≡ take (min end (length b) - start) (drop start b)
+      go true h = rw (min-eq_left (leb-true end (length b) h))
+      go false h =
+          let l = leb-false end (length b) h in
+          let d = length-drop start b in
+          take_all (end - start) (drop start b) (omega (arith, d)) ∙ sym (take_all (min end (length b) - start) (drop start b) (omega (arith, d)))
 
-    pub moved_all : n ≤ end - start → n ≤ length b - start → length b ≤ start + n → c ≡ paste b 0 (drop start b) n
-        → (n ≡ length (part b start (end - start))) × (c ≡ with_front b (part b start (end - start)))
-    unfolding part
-    moved_all h l k e =
-        let d = length-drop start b in
-        fronted n c (take (end - start) (drop start b)) (take_all (end - start) (drop start b) (omega arith) ∙ sym (take_all n (drop start b) (omega arith))) l e
+  module _ (end : ℕ) where
+    pub moved : start < min end (length b) → (c : List ℕ) → c ≡ paste b 0 (drop start b) (min end (length b) - start)
+        → (min end (length b) - start ≡ length (part b start (end - start))) × (c ≡ with_front b (part b start (end - start)))
+    moved h c e = let m = min-le_right end (length b) in fronted (min end (length b) - start) c (part b start (end - start)) (part_cut end) (omega arith) e
+
+    pub moved_none : min end (length b) ≤ start → (0 ≡ length (part b start (end - start))) × (b ≡ with_front b (part b start (end - start)))
+    moved_none h = let z : min end (length b) - start ≡ 0 = omega arith in rw (part_cut end, z) (refl, refl)
 
 pub after_a_read : (kept k n : ℕ) (b read : List ℕ) → kept ≤ length b → kept + n ≤ length b → ReadAfter b kept (kept + n) (put_mid kept k b read)
 after_a_read kept k n b read h l =
@@ -75,15 +68,39 @@ module _ (b c : List ℕ) (kept count : ℕ) (s : take kept c ≡ take kept b) (
   pub read_all : length c ≤ count → ReadAfter b kept (length c) c
   read_all g = let m = min-le_right kept (length b) in record { stays = s; keeps = omega arith; fits = omega arith }
 
--- a CR at the end of a line
-pub last_byte : (s : List ℕ) → 0 < length s → part s (length s - 1) 1 ≡ drop (length s - 1) s
-unfolding part
-last_byte s h = take_all 1 (drop (length s - 1) s) (omega (arith, length-drop (length s - 1) s))
+-- a read that failed after others
+pub still_kept : (b c d : List ℕ) (kept count : ℕ) → take kept c ≡ take kept b → kept ≤ count → take count d ≡ take count c → take kept d ≡ take kept b
+still_kept b c d kept count s h e = sym (take-take kept count d h) ∙ ap (take kept) e ∙ take-take kept count c h ∙ s
 
-pub without-none : (s : List ℕ) → length s ≡ 0 → without_cr s ≡ s
-unfolding without_cr same
-without-none [] h = refl
-without-none (b ∷ s) h = absurd (omega arith)
+-- what every read keeps, and how much it counts
+pub reads-stay : {E : Type 0} (b : List ℕ) (kept : ℕ) (r : Result ℕ E) (c : List ℕ) → Reads b kept r c → take kept c ≡ take kept b
+reads-stay b kept (Ok n) c h = h.stays
+reads-stay b kept (Err e) c h = h
+
+pub reads-fit : {E : Type 0} (b : List ℕ) (kept : ℕ) (r : Result ℕ E) (c : List ℕ) → Reads b kept r c → IfOk r (λ n. n ≤ length b)
+reads-fit b kept (Ok n) c h = h.fits
+reads-fit b kept (Err e) c h = tt
+
+-- the place that was found, or the end
+pub place_there : (s : List ℕ) (from : ℕ) (o : Option ℕ) → o ≡ first_from (bytes "\n") s from
+    → (unwrap_or o (length s) ≡ line_end s from) × (unwrap_or o (length s) < length s → from ≤ unwrap_or o (length s))
+place_there s from (Some i) e = (ap (place_or (length s)) e, λ h. omega (arith, (from_at _ _ _ _ (sym e)).0))
+place_there s from None e = (ap (place_or (length s)) e, λ h. omega arith)
+
+-- a CR at the end of a line
+pointwise-same : (s t : List ℕ) → pointwise nat_eq s t ≡ same s t
+unfolding same
+pointwise-same [] [] = refl
+pointwise-same [] (y ∷ t) = refl
+pointwise-same (x ∷ s) [] = refl
+pointwise-same (x ∷ s) (y ∷ t) = ap (λ (k : Bool). nat_eq x y && k) (pointwise-same s t)
+
+pub cr_cut : (line : Bor (List ℕ)) (o : Option (Bor (List ℕ)))
+    → MatchOption o (pointwise nat_eq (drop (length line.now - 1) line.now) (bytes "\r") ≡ false) (λ x. (pointwise nat_eq (drop (length line.now - 1) line.now) (bytes "\r") ≡ true) × (x.now ≡ take (length line.now - 1) line.now) × (length x.now + 1 ≡ length line.now))
+    → (unwrap_or o line).now ≡ without_cr line.now
+unfolding without_cr
+cr_cut line (Some x) h = rw (sym (pointwise-same (drop (length line.now - 1) line.now) (bytes "\r")) ∙ h.0) h.1
+cr_cut line None h = rw (sym (pointwise-same (drop (length line.now - 1) line.now) (bytes "\r")) ∙ h) refl
 
 pub without_shorter : (s : List ℕ) → length (without_cr s) ≤ length s
 unfolding without_cr

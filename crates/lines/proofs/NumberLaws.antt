@@ -1,34 +1,35 @@
 -- Laws of a number, digit by digit.
 use Prim.Native.Nat.{ℕ, suc, ◌+◌, ◌*◌, ◌-◌, ◌≤◌, ◌<◌, min}
-use mathlib.Core.Path.{◌≡◌, refl, ap}
+use mathlib.Core.Path.{◌≡◌, refl, sym, ap}
 use mathlib.Core.List.{List, [], ◌∷◌}
 use mathlib.Core.Bool.{Bool, true, false, cond}
+use Rattle.std.specs.Prelude.{◌==◌}
 use native.Mathlib.Numerals.{add-one}
 use native.Mathlib.Omega.{arith}
+use Rattle.std.proofs.lemmas.Bool.{eqb-true}
 use lib.ListN.{length, drop, get_or, drop_of_length-le}
 use lib.Seq.{drop-cons}
-use borrow.Author.Tests.{le-leb, lt-leb}
 use Rattle.text.specs.Number.{none, is_digit, digits_from}
 use Rattle.text.specs.declared.number.NumberError.TheVariants.{Byte}
 use Rattle.lines.specs.Number.{amount, no_amount, capped, number_in}
 
 -- numbers that are capped alike stay so with a digit more
 module _ (s : List ℕ) where
-  pub capped_start : 0 < length s → number_in s ≡ capped (digits_from 0 (drop 0 s))
+  pub capped_start : false ≡ (length s == 0) → number_in s ≡ capped (digits_from 0 s)
   unfolding number_in
   capped_start h = go s h
     where
-      go : (t : List ℕ) → 0 < length t → number_in t ≡ capped (digits_from 0 t)
-      go [] h = absurd (omega arith)
+      go : (t : List ℕ) → false ≡ (length t == 0) → number_in t ≡ capped (digits_from 0 t)
+      go [] h = let z : ◌≡◌ {A = ℕ} 0 1 = cc in absurd (omega arith)
       go (b ∷ t) h = refl
 
-  pub none_empty : length s ≡ 0 → number_in s ≡ no_amount
+  pub none_empty : true ≡ (length s == 0) → number_in s ≡ no_amount
   unfolding number_in
   none_empty h = go s h
     where
-      go : (t : List ℕ) → length t ≡ 0 → number_in t ≡ no_amount
+      go : (t : List ℕ) → true ≡ (length t == 0) → number_in t ≡ no_amount
       go [] h = refl
-      go (b ∷ t) h = absurd (omega arith)
+      go (b ∷ t) h = let z = eqb-true (length (b ∷ t)) 0 (sym h) in absurd (omega (arith, z))
 
 capped_same : (v w : ℕ) (s : List ℕ) → min v 4294967296 ≡ min w 4294967296 → capped (digits_from v s) ≡ capped (digits_from w s)
 unfolding digits_from
@@ -46,17 +47,11 @@ module _ (v : ℕ) (s : List ℕ) (i : ℕ) where
   capped-end h l = rw (drop_of_length-le s {i = i} h) (let z : min v 4294967296 ≡ v = omega arith in ap amount z)
 
   module _ (h : i < length s) where
-    pub capped_low : get_or s i 0 < 48 → capped (digits_from v (drop i s)) ≡ no_amount
+    pub capped_other : is_digit (get_or s i 0) ≡ false → capped (digits_from v (drop i s)) ≡ no_amount
     unfolding digits_from
-    capped_low l = rw (drop-cons s i 0 h, lt-leb 48 (get_or s i 0) l)
+    capped_other e = rw (drop-cons s i 0 h, e)
 
-    pub capped_high : 57 < get_or s i 0 → capped (digits_from v (drop i s)) ≡ no_amount
-    unfolding digits_from
-    capped_high l = rw (drop-cons s i 0 h, le-leb 48 (get_or s i 0) (omega arith), lt-leb (get_or s i 0) 57 l)
-
-    pub capped-more : 48 ≤ get_or s i 0 → get_or s i 0 ≤ 57 → (w : ℕ) → w ≡ min (v * 10 + (get_or s i 0 - 48)) 4294967296
+    pub capped-more : is_digit (get_or s i 0) ≡ true → (w : ℕ) → w ≡ min (v * 10 + (get_or s i 0 - 48)) 4294967296
         → capped (digits_from v (drop i s)) ≡ capped (digits_from w (drop (i + 1) s))
     unfolding digits_from
-    capped-more p q w e =
-        rw (add-one i, drop-cons s i 0 h, le-leb 48 (get_or s i 0) p, le-leb (get_or s i 0) 57 q)
-        (capped_same (v * 10 + (get_or s i 0 - 48)) w (drop (suc i) s) (omega arith))
+    capped-more p w e = rw (add-one i, drop-cons s i 0 h, p) (capped_same (v * 10 + (get_or s i 0 - 48)) w (drop (suc i) s) (omega arith))

@@ -7,8 +7,7 @@ use mir.Syntax.{Dict}
 use Rattle.std.specs.declared.io.Print as Print
 use Rattle.text.proofs.OneOutcome.{One}
 use Rattle.lines.specs.Number.{Amount, amount, no_amount, amount_of}
-use Rattle.lines.specs.declared.number.Number.{Number}
-use Rattle.lines.specs.declared.number.Number.TheVariants as number
+use Rattle.std.specs.Prelude.{ℕ, Option, Some, None}
 use Rattle.lines.proofs.hex.decode as decode
 use Rattle.lines.proofs.number.decimal as decimal
 use Rattle.lines.proofs.input.line_end as line_end_lem
@@ -20,15 +19,15 @@ use Rattle.lines.proofs.output.with_room as with_room
 pub one_decode : One 2 decode.Kinds.ps decode.Kinds.r decode.Reads.Post (λ κs x s. x) × One 2 decode.Kinds.ps decode.Kinds.r decode.Reads.Post (λ κs x s. s.0.now)
 one_decode = ((λ κs a x y s t p q. p.0 ∙ sym q.0), λ κs a x y s t p q. p.1 ∙ sym q.1)
 
-abbrev number_of : Amount → Number
-number_of (amount n) = number.Value n
-number_of no_amount = number.Refused
+abbrev number_of : Amount → Option ℕ
+number_of (amount n) = Some n
+number_of no_amount = None
 
-number_back : (x : Number) → number_of (amount_of x) ≡ x
-number_back (number.Value n) = refl
-number_back number.Refused = refl
+number_back : (x : Option ℕ) → number_of (amount_of x) ≡ x
+number_back (Some n) = refl
+number_back None = refl
 
-pub number_injective : (x y : Number) → amount_of x ≡ amount_of y → x ≡ y
+pub number_injective : (x y : Option ℕ) → amount_of x ≡ amount_of y → x ≡ y
 number_injective x y e = sym (number_back x) ∙ ap number_of e ∙ number_back y
 
 pub one-decimal : One 1 decimal.Kinds.ps decimal.Kinds.r decimal.Reads.Post (λ κs x s. x)

@@ -3,7 +3,6 @@
 use Prim.Native.Nat.{ℕ, ◌≤◌}
 use mathlib.Core.Path.{◌≡◌}
 use mathlib.Core.List.{List}
-use mathlib.Core.Bool.{false}
 use contract.Lifetimes.{Lfts}
 use denote.Param.Laws.{Laws}
 use denote.RattleType.{RattleType}
@@ -20,12 +19,12 @@ use Rattle.text.specs.Number.{digits_from}
 use Rattle.lines.specs.Hex.{pairs, bytes_in}
 use Rattle.lines.specs.Number.{number_in}
 use Rattle.lines.specs.Input.{without_cr}
-use Rattle.lines.specs.declared.hex.Decoded.{Decoded}
-use Rattle.lines.specs.declared.hex.Decoded.TheVariants as decoded
-use Rattle.lines.specs.declared.input.Got.{Got}
+use Rattle.std.specs.Prelude.{Option, Some, None, Result, Ok, Err, IsSome, IfOk}
+use Rattle.std.specs.declared.io.Error.{Error}
+use Rattle.lines.specs.declared.hex.HexError.{HexError}
+use Rattle.lines.specs.declared.hex.HexError.TheVariants.{NoHex, NoRoom}
 use Rattle.lines.specs.declared.output.Out.{Out}
-use Rattle.lines.specs.declared.number.Number.{Number}
-use Rattle.lines.specs.declared.number.Number.TheVariants as number
+use Rattle.lines.proofs.InputLaws.{reads-stay, reads-fit}
 use Rattle.lines.proofs.OneOutcome.{number_injective}
 use Rattle.lines.proofs.hex.decode as decode
 use Rattle.lines.proofs.number.decimal as decimal
@@ -37,31 +36,31 @@ use Rattle.lines.proofs.input.read_full as read_full
 use Rattle.lines.proofs.output.write_out as write_out
 use Rattle.lines.proofs.output.with_room as with_room
 
-module _ (κs : Lfts 2) (a : Dens κs decode.Kinds.ps) (x : Decoded) (e : AtExit (ended_of 2 decode.Kinds.ps decode.Kinds.r) κs) (p : decode.Reads.Post κs a x e)
+module _ (κs : Lfts 2) (a : Dens κs decode.Kinds.ps) (x : Result ℕ HexError) (e : AtExit (ended_of 2 decode.Kinds.ps decode.Kinds.r) κs) (p : decode.Reads.Post κs a x e)
     (b : a.0.now ≡ hex "FF FF") where
   -- one that leaves what it has read of a text that is no hex, or of one that has no room
-  pub half_a_byte : a.1.0.now ≡ bytes "aa5" → (x ≡ decoded.NoHex) × (e.0.now ≡ hex "FF FF")
+  pub half_a_byte : a.1.0.now ≡ bytes "aa5" → (x ≡ Err NoHex) × (e.0.now ≡ hex "FF FF")
   unfolding bytes_in pairs same
   half_a_byte s = rw (s, b) at p
 
-  pub no_room : a.1.0.now ≡ bytes "010203" → (x ≡ decoded.NoRoom) × (e.0.now ≡ hex "FF FF")
+  pub no_room : a.1.0.now ≡ bytes "010203" → (x ≡ Err NoRoom) × (e.0.now ≡ hex "FF FF")
   unfolding bytes_in pairs same
   no_room s = rw (s, b) at p
 
   -- one that clears the rest, takes the low digit first, or capitals for no digits
-  pub one_byte_lem : a.1.0.now ≡ bytes "0A" → (x ≡ decoded.Bytes 1) × (e.0.now ≡ hex "0A FF")
+  pub one_byte_lem : a.1.0.now ≡ bytes "0A" → (x ≡ Ok 1) × (e.0.now ≡ hex "0A FF")
   unfolding bytes_in pairs same
   one_byte_lem s = rw (s, b) at p
 
-module _ (κs : Lfts 1) (a : Dens κs decimal.Kinds.ps) (x : Number) (e : AtExit (ended_of 1 decimal.Kinds.ps decimal.Kinds.r) κs) (p : decimal.Reads.Post κs a x e) where
+module _ (κs : Lfts 1) (a : Dens κs decimal.Kinds.ps) (x : Option ℕ) (e : AtExit (ended_of 1 decimal.Kinds.ps decimal.Kinds.r) κs) (p : decimal.Reads.Post κs a x e) where
   -- one that takes a sign, and one that forgets what 32 bits do not hold
-  pub signed : a.0.now ≡ bytes "+1" → x ≡ number.Refused
+  pub signed : a.0.now ≡ bytes "+1" → x ≡ None
   unfolding number_in digits_from
-  signed s = number_injective x number.Refused (rw s at p)
+  signed s = number_injective x None (rw s at p)
 
-  pub large : a.0.now ≡ bytes "4294967297" → x ≡ number.Value 4294967296
+  pub large : a.0.now ≡ bytes "4294967297" → x ≡ Some 4294967296
   unfolding number_in digits_from
-  large s = number_injective x (number.Value 4294967296) (rw s at p)
+  large s = number_injective x (Some 4294967296) (rw s at p)
 
 -- one that finds the first line end again, and one that finds none where the last line has none
 module _ (κs : Lfts 1) (a : Dens κs line_end_lem.Kinds.ps) (x : ℕ) (e : AtExit (ended_of 1 line_end_lem.Kinds.ps line_end_lem.Kinds.r) κs) (p : line_end_lem.Reads.Post κs a x e)
@@ -98,21 +97,21 @@ module _ (κs : Lfts 1) (a : Dens κs move_to_front.Kinds.ps) (x : ℕ) (e : AtE
   past_the_buffer f g = rw (s, f, g) at p
 
 -- one that reads over the bytes that are kept, and one that counts what had no room
-module _ (T : RattleType) (L : Laws T) (g : Read.Ghosts T.Denot) (d : Dict) (κs : Lfts 3) (a : Dens κs (read_after.Kinds.ps T L)) (x : Got) (e : AtExit (ended_of 3 (read_after.Kinds.ps T L) (read_after.Kinds.r T L)) κs) (p : read_after.Reads.Post T L g d κs a x e)
+module _ (T : RattleType) (L : Laws T) (g : Read.Ghosts T.Denot) (d : Dict) (κs : Lfts 3) (a : Dens κs (read_after.Kinds.ps T L)) (x : Result ℕ Error) (e : AtExit (ended_of 3 (read_after.Kinds.ps T L) (read_after.Kinds.r T L)) κs) (p : read_after.Reads.Post T L g d κs a x e)
     (s : a.1.0.now ≡ hex "AA BB") where
   pub kept_byte : a.1.1.0 ≡ 1 → take 1 e.1.0.now ≡ hex "AA"
-  kept_byte k = (rw (s, k) at p).stays
+  kept_byte k = rw (s, k) at (reads-stay _ _ x _ p)
 
-  pub no-more_than_room : x.count ≤ 2
-  no-more_than_room = (rw s at p).fits
+  pub no-more_than_room : IfOk x (λ n. n ≤ 2)
+  no-more_than_room = rw s at (reads-fit _ _ x _ p)
 
-module _ (T : RattleType) (L : Laws T) (g : Read.Ghosts T.Denot) (d : Dict) (κs : Lfts 3) (a : Dens κs (read_full.Kinds.ps T L)) (x : Got) (e : AtExit (ended_of 3 (read_full.Kinds.ps T L) (read_full.Kinds.r T L)) κs) (p : read_full.Reads.Post T L g d κs a x e)
+module _ (T : RattleType) (L : Laws T) (g : Read.Ghosts T.Denot) (d : Dict) (κs : Lfts 3) (a : Dens κs (read_full.Kinds.ps T L)) (x : Result ℕ Error) (e : AtExit (ended_of 3 (read_full.Kinds.ps T L) (read_full.Kinds.r T L)) κs) (p : read_full.Reads.Post T L g d κs a x e)
     (s : a.1.0.now ≡ hex "AA BB") where
   pub full_kept-byte : a.1.1.0 ≡ 1 → take 1 e.1.0.now ≡ hex "AA"
-  full_kept-byte k = (rw (s, k) at p).stays
+  full_kept-byte k = rw (s, k) at (reads-stay _ _ x _ p)
 
-  pub full_no-more_than_room : x.count ≤ 2
-  full_no-more_than_room = (rw s at p).fits
+  pub full_no-more_than_room : IfOk x (λ n. n ≤ 2)
+  full_no-more_than_room = rw s at (reads-fit _ _ x _ p)
 
 -- one that writes what may still leave room, or does not write what may leave none; one that goes on with what it has written; one that tries again
 module _ (T : RattleType) (L : Laws T) (g : Print.Ghosts T.Denot) (d : Dict) (κs : Lfts 3) (a : Dens κs (with_room.Kinds.ps T L)) (x : Out) (e : AtExit (ended_of 3 (with_room.Kinds.ps T L) (with_room.Kinds.r T L)) κs) (p : with_room.Reads.Post T L g d κs a x e) where
@@ -126,5 +125,5 @@ module _ (T : RattleType) (L : Laws T) (g : Print.Ghosts T.Denot) (d : Dict) (κ
   pub nothing_left : x.count ≡ 0
   nothing_left = p.0
 
-  pub failed_for_good : a.1.1.0.works ≡ false → x.works ≡ false
+  pub failed_for_good : IsSome a.1.1.0.failed → x.failed ≡ a.1.1.0.failed
   failed_for_good = p.1

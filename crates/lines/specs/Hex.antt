@@ -1,9 +1,9 @@
 -- Bytes in hex as people paste it: two digits a byte, of either case, with or without spaces between bytes; a dash for no bytes.
-use Rattle.std.specs.Prelude.{ℕ, ◌+◌, ◌*◌, ◌-◌, List, [], ◌∷◌, ◌++◌, Bool, cond, ◌&&◌, eqb, leb, ltb, length, drop}
+use Rattle.std.specs.Prelude.{ℕ, ◌+◌, ◌*◌, ◌-◌, List, [], ◌∷◌, ◌++◌, Bool, cond, ◌&&◌, eqb, leb, ltb, length, drop, Result, Ok, Err}
 use Prim.Native.Char.{code}
 use Rattle.text.specs.Bytes.{bytes, same}
-use Rattle.lines.specs.declared.hex.Decoded.{Decoded}
-use Rattle.lines.specs.declared.hex.Decoded.TheVariants.{Bytes, NoHex, NoRoom}
+use Rattle.lines.specs.declared.hex.HexError.{HexError}
+use Rattle.lines.specs.declared.hex.HexError.TheVariants.{NoHex, NoRoom}
 
 -- the value of a digit, or 16 for any other byte
 abbrev pub digit_of : ℕ → ℕ
@@ -39,9 +39,9 @@ unfoldable pub bytes_in : List ℕ → Spelt
 bytes_in s = cond (same s (bytes "-")) (spells []) (some_bytes (pairs s))
 
 -- the answer of a call that puts these bytes into a buffer with so much room, and the buffer afterwards
-abbrev pub answer : ℕ → Spelt → Decoded
-answer room (spells x) = cond (leb (length x) room) (Bytes (length x)) NoRoom
-answer room no_hex = NoHex
+abbrev pub answer : ℕ → Spelt → Result ℕ HexError
+answer room (spells x) = cond (leb (length x) room) (Ok (length x)) (Err NoRoom)
+answer room no_hex = Err NoHex
 
 abbrev pub after : List ℕ → Spelt → List ℕ
 after buf (spells x) = cond (leb (length x) (length buf)) (x ++ drop (length x) buf) buf

@@ -1,14 +1,12 @@
 -- Where a line ends, a line without the CR at its end, a buffer whose kept bytes were moved to its front, and one after a read.
-use Rattle.std.specs.Prelude.{ℕ, ◌-◌, ◌≤◌, min, ◌≡◌, List, ◌++◌, cond, length, take, drop}
+use Rattle.std.specs.Prelude.{ℕ, ◌-◌, ◌≤◌, min, ◌≡◌, List, ◌++◌, cond, length, take, drop, Option, Some, None, Result, Ok, Err}
 use Rattle.text.specs.Bytes.{bytes, same}
 use Rattle.text.specs.Find.{first_from}
-use Rattle.text.specs.declared.find.Found.{Found}
-use Rattle.text.specs.declared.find.Found.TheVariants.{At, Nothing}
 
 -- the place that was found, or else
-abbrev pub place_or : ℕ → Found → ℕ
-place_or other (At i) = i
-place_or other Nothing = other
+abbrev pub place_or : ℕ → Option ℕ → ℕ
+place_or other (Some i) = i
+place_or other None = other
 
 -- the place of the first line end from a place on, or the end of the text
 abbrev pub line_end : List ℕ → ℕ → ℕ
@@ -26,3 +24,8 @@ pub record ReadAfter (buf : List ℕ) (kept count : ℕ) (exit : List ℕ) : Typ
   pub stays : take kept exit ≡ take kept buf
   pub keeps : min kept (length buf) ≤ count
   pub fits : count ≤ length buf
+
+-- where the system fails to read, the first `kept` bytes stay as they are too
+abbrev pub Reads : {E : Type 0} → List ℕ → ℕ → Result ℕ E → List ℕ → Type 0
+Reads buf kept (Ok count) exit = ReadAfter buf kept count exit
+Reads buf kept (Err e) exit = take kept exit ≡ take kept buf

@@ -1,8 +1,6 @@
 -- Numbers as a line spells them: decimal digits alone.
-use Rattle.std.specs.Prelude.{ℕ, min, List, [], ◌∷◌}
+use Rattle.std.specs.Prelude.{ℕ, min, List, [], ◌∷◌, Option, Some, None}
 use Rattle.text.specs.Number.{Num, some, none, digits_from}
-use Rattle.lines.specs.declared.number.Number.{Number}
-use Rattle.lines.specs.declared.number.Number.TheVariants as number
 
 pub data Amount : Type 0 where
   amount : ℕ → Amount
@@ -18,6 +16,6 @@ number_in [] = no_amount
 number_in (b ∷ s) = capped (digits_from 0 (b ∷ s))
 
 -- what the answer shows
-abbrev pub amount_of : Number → Amount
-amount_of (number.Value n) = amount n
-amount_of number.Refused = no_amount
+abbrev pub amount_of : Option ℕ → Amount
+amount_of (Some n) = amount n
+amount_of None = no_amount

@@ -1,135 +1,102 @@
 // Bytes in hex, as people paste them.
-ghost use Rattle.std.specs.Prelude.{ℕ, ◌≤◌, ◌<◌, ◌≡◌, List, ◌++◌, length, drop, get_or};
-ghost use Rattle.lines.specs.Hex.{digit_of, spells, pairs, bytes_in, answer, after};
-ghost use Rattle.lines.specs.Steps.{step_of, Later, counted};
+ghost use Rattle.std.specs.Prelude.{ℕ, ◌≤◌, ◌<◌, ◌≡◌, List, ◌++◌, length, drop, cond, position, Ok, Err};
+ghost use Rattle.lines.specs.Hex.{digit_of, is_digit, spells, pairs, bytes_in, answer, after};
+ghost use Rattle.lines.specs.declared.hex.HexError.TheVariants.{NoHex};
+ghost use Rattle.lines.specs.Steps.{no_space, step_of, Shorter, counted};
 
 use text::bytes::same;
 
-// How many bytes were put, that the text spells none, or that it spells more than there is room for.
+// The text spells no bytes, or it spells more than there is room for.
 #[derive(Clone, Copy)]
-pub enum Decoded {
-    Bytes(usize),
+pub enum HexError {
     NoHex,
     NoRoom,
 }
 
-// A byte that is spelt, and the place after its digits; or that none is left; or that this is no hex.
+// A byte that is spelt, and the text after its digits.
 #[derive(Clone, Copy)]
-enum Step {
-    Byte { value: u8, next: usize },
-    End,
-    NoHex,
+struct Pair<'a> {
+    value: u8,
+    rest: &'a [u8],
 }
 
-// How many bytes a text spells, if it is hex.
-#[derive(Clone, Copy)]
-enum Counted {
-    Bytes(usize),
-    NoHex,
-}
-
-// The value of a hex digit, or 16 for any other byte.
-fn value(b: u8) -> u8
-    ensures { result ≡ digit_of b }
+// The value of a hex digit.
+fn digit(b: u8) -> Result<u8, HexError>
+    ensures { result ≡ cond (is_digit b) (Ok (digit_of b)) (Err NoHex) }
 {
     match b {
-        b'0'..=b'9' => b - b'0',
-        b'A'..=b'F' => b - b'A' + 10,
-        b'a'..=b'f' => b - b'a' + 10,
-        _ => 16,
+        b'0'..=b'9' => Ok(b - b'0'),
+        b'A'..=b'F' => Ok(b - b'A' + 10),
+        b'a'..=b'f' => Ok(b - b'a' + 10),
+        _ => Err(HexError::NoHex),
     }
 }
 
-// The two digits at a place where no space is.
-fn digits(s: &[u8], at: usize) -> Step
-    requires { (at < length s.now) × (get_or s.now at 0 ≡ 32 → ⊥) }
-    ensures { (step_of s.now result ≡ pairs (drop at s.now)) × Later at (length s.now) result }
+// The place of the first byte that is no space.
+fn past_spaces(s: &[u8]) -> Option<usize>
+    ensures { result ≡ position no_space s.now }
 {
-    if s.len() - at < 2 {
-        return Step::NoHex;
-    }
-    let high = value(s[at]);
-    let low = value(s[at + 1]);
-    if 15 < high {
-        return Step::NoHex;
-    }
-    if 15 < low {
-        return Step::NoHex;
-    }
-    Step::Byte {
-        value: high * 16 + low,
-        next: at + 2,
-    }
+    s.iter().position(|b| *b != b' ')
 }
 
-// The first byte that is spelt from a place on.
-fn next(s: &[u8], at: usize) -> Step
-    ensures { (step_of s.now result ≡ pairs (drop at s.now)) × Later at (length s.now) result }
+// The first byte that is spelt, after spaces; or that none is.
+fn next(s: &[u8]) -> Result<Option<Pair<'_>>, HexError>
+    ensures step { step_of result ≡ pairs s.now }
+    ensures shorter { Shorter (length s.now) result }
 {
-    let mut i = at;
-    while i < s.len() {
-        if s[i] != b' ' {
-            return digits(s, i);
-        }
-        i += 1;
-    }
-    Step::End
+    let Some(i) = past_spaces(s) else {
+        return Ok(None);
+    };
+    let [high, low, rest @ ..] = &s[i..] else {
+        return Err(HexError::NoHex);
+    };
+    let high = digit(*high)?;
+    let low = digit(*low)?;
+    let value = high * 16 + low;
+    Ok(Some(Pair { value, rest }))
 }
 
 // How many bytes the text spells.
-fn count(s: &[u8]) -> Counted
+fn count(s: &[u8]) -> Result<usize, HexError>
     ensures { result ≡ counted 0 (pairs s.now) }
 {
     let mut n = 0;
-    let mut i = 0;
-    while i < s.len() {
-        match next(s, i) {
-            Step::Byte { value: _, next } => {
-                n += 1;
-                i = next;
-            }
-            Step::End => return Counted::Bytes(n),
-            Step::NoHex => return Counted::NoHex,
-        }
+    let mut left = s;
+    while let Some(pair) = next(left)? {
+        n += 1;
+        left = pair.rest;
     }
-    Counted::Bytes(n)
+    Ok(n)
 }
 
 // Puts the bytes that the text spells, which have room, at the start of `bytes`.
 fn fill(bytes: &mut [u8], s: &[u8])
     ensures { (x : List ℕ) → pairs s.now ≡ spells x → length x ≤ length bytes.old → bytes.new ≡ x ++ drop (length x) bytes.old }
 {
-    let mut n = 0;
-    let mut i = 0;
-    while n < bytes.len() {
-        match next(s, i) {
-            Step::Byte { value, next } => {
-                bytes[n] = value;
-                n += 1;
-                i = next;
-            }
-            Step::End => return,
-            Step::NoHex => return,
-        }
+    let mut left = s;
+    for to in bytes {
+        let Ok(Some(pair)) = next(left) else {
+            return;
+        };
+        *to = pair.value;
+        left = pair.rest;
     }
 }
 
-// Puts the bytes that the text spells at the start of `bytes`. A dash spells no bytes.
-pub fn decode(bytes: &mut [u8], s: &[u8]) -> Decoded
+// Puts the bytes that the text spells at the start of `bytes`, and answers how many they are. A dash spells no bytes.
+pub fn decode(bytes: &mut [u8], s: &[u8]) -> Result<usize, HexError>
     ensures { (result ≡ answer (length bytes.old) (bytes_in s.now)) × (bytes.new ≡ after bytes.old (bytes_in s.now)) }
 {
     if same(s, b"-") {
-        return Decoded::Bytes(0);
+        return Ok(0);
     }
-    let Counted::Bytes(n) = count(s) else {
-        return Decoded::NoHex;
-    };
+    let n = count(s)?;
     if n == 0 {
-        return Decoded::NoHex;
+        return Err(HexError::NoHex);
     }
     if bytes.len() < n {
-        return Decoded::NoRoom;
+        return Err(HexError::NoRoom);
     }
     fill(bytes, s);
-    Decoded::Bytes(n)
+    Ok(n)
 }

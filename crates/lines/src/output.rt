@@ -1,5 +1,5 @@
 // Standard output, collected in a buffer, and what is said of a failure.
-ghost use Rattle.std.specs.Prelude.{◌≤◌, ◌≡◌, false};
+ghost use Rattle.std.specs.Prelude.{◌≤◌, ◌≡◌, IsSome, None};
 ghost use Rattle.lines.specs.Output.{goes_on_at};
 
 use std::io;
@@ -8,36 +8,39 @@ use text::bytes::part;
 // From this place on a buffer of 131,072 bytes may lack room for what is put next, which has at most 17,072 bytes.
 const NEARLY_FULL: usize = 114000;
 
-// So many bytes of the buffer are to be written, and writing still works, or why it does not.
+// So many bytes of the buffer are to be written, and why writing does not work any more, where it failed.
 #[derive(Clone, Copy)]
 pub struct Out {
     pub count: usize,
-    pub works: bool,
     pub failed: Option<io::Error>,
+}
+
+impl Out {
+    // So many bytes are to be written first.
+    pub fn new(count: usize) -> Self
+        ensures { (result.count ≡ count) × (result.failed ≡ None) }
+    {
+        Out {
+            count,
+            failed: None,
+        }
+    }
 }
 
 // Writes them. After a write that failed there is none, and the reason is kept.
 pub fn write_out<P: Print>(to: &P, output: &[u8], o: Out) -> Out
-    ensures { (result.count ≡ 0) × (o.works ≡ false → result.works ≡ false) }
+    ensures { (result.count ≡ 0) × (IsSome o.failed → result.failed ≡ o.failed) }
 {
-    let mut works = o.works;
-    let mut failed = o.failed;
-    if works {
-        if let Err(e) = to.write_all(part(output, 0, o.count)) {
-            works = false;
-            failed = Some(e);
-        }
-    }
-    Out {
-        count: 0,
-        works,
-        failed,
-    }
+    let failed = match o.failed {
+        Some(e) => Some(e),
+        None => to.write_all(part(output, 0, o.count)).err(),
+    };
+    Out { count: 0, failed }
 }
 
 // Sees that there is room for what is put next.
 pub fn with_room<P: Print>(to: &P, output: &[u8], o: Out) -> Out
-    ensures { (result.count ≡ goes_on_at o.count) × (result.count ≤ 114000) × (o.works ≡ false → result.works ≡ false) }
+    ensures { (result.count ≡ goes_on_at o.count) × (result.count ≤ 114000) × (IsSome o.failed → result.failed ≡ o.failed) }
 {
     if NEARLY_FULL < o.count {
         write_out(to, output, o)

@@ -1,24 +1,30 @@
-use mathlib.Core.Path.{refl, ◌∙◌}
+use mathlib.Core.Path.{refl}
 use native.Mathlib.Omega.{arith}
-use Rattle.lines.proofs.InputLaws.{still_stays, read_more, read_all}
+use Rattle.std.proofs.lemmas.Result.{err_from_is_err_and}
+use Rattle.lines.proofs.InputLaws.{still_stays, still_kept, read_more, read_all}
 use Rattle.lines.proofs.input.read_full.Goals as goal
 
 pub loop-count-init : goal.loop-count-init
 loop-count-init g c = (refl, omega arith, refl)
 
-pub returns-then-got-count : goal.returns-then-got-count
-returns-then-got-count g c = let a = c.args in
+pub returns-in_err-n : goal.returns-in_err-n
+returns-in_err-n g c = let l = c.loop-count in
+    let p = err_from_is_err_and c.from_residual.result c.from_residual.ensures.1 in
+    rw p.1 (still_kept c.args.input.now l.input _ c.args.kept l.count l.invariant.0 l.invariant.1 c.in_err-n.ensures)
+
+pub returns-then-n-count : goal.returns-then-n-count
+returns-then-n-count g c = let a = c.args in
     let l = c.loop-count in
-    (read_more a.input.now l.input a.kept l.count l.invariant.0 l.invariant.1 l.invariant.2 c.read_after-got.result.count _ c.loop-count-test.true c.read_after-got.ensures).1
+    (read_more a.input.now l.input a.kept l.count l.invariant.0 l.invariant.1 l.invariant.2 c.in_ok-n.n _ c.loop-count-test.true c.in_ok-n.ensures).1
 
 pub loop-count-smaller : goal.loop-count-smaller
-loop-count-smaller g c = omega (arith, c.if-got-count.false, c.input-1.given, c.loop-count-test.true)
+loop-count-smaller g c = omega (arith, c.if-n-count.false, c.loop-count-test.true, c.loop-count.invariant.2)
 
 pub loop-count-preserved : goal.loop-count-preserved
 loop-count-preserved g c = let a = c.args in
     let l = c.loop-count in
     let k = l.invariant.1 in
-    (still_stays a.input.now l.input a.kept l.count l.invariant.0 l.invariant.1 l.invariant.2 c.read_after-got.result.count _ c.read_after-got.ensures, omega (arith, c.if-got-count.false, k), c.input-1.given ∙ l.invariant.2)
+    (still_stays a.input.now l.input a.kept l.count l.invariant.0 l.invariant.1 l.invariant.2 c.in_ok-n.n _ c.in_ok-n.ensures, omega (arith, c.if-n-count.false, k), omega (arith, l.invariant.2, c.read_after.auto.input))
 
 pub returns : goal.returns
 returns g c = let a = c.args in
