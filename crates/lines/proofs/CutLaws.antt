@@ -1,6 +1,6 @@
 -- A text cut at the first place of a mark, as a search finds it.
 use Prim.Native.Nat.{ℕ, ◌+◌, ◌-◌}
-use mathlib.Core.Path.{◌≡◌, refl}
+use mathlib.Core.Path.{◌≡◌, refl, sym, ap, ◌∙◌}
 use mathlib.Core.List.{List}
 use mathlib.Core.Bool.{Bool, true, false, cond}
 use native.Mathlib.Omega.{arith}
@@ -11,6 +11,7 @@ use borrow.Author.Tests.{lt-ltb, le-ltb, ltb-false}
 use Rattle.text.specs.Bytes.{part}
 use Rattle.text.specs.Find.{first_of, first_from}
 use Rattle.std.specs.Prelude.{Some, None}
+use Rattle.text.proofs.BytesLaws.{part-rest}
 use Rattle.text.proofs.FindLaws.{from_at}
 use Rattle.lines.specs.Cut.{cut, whole, cut_at}
 
@@ -31,3 +32,13 @@ module _ (mark s : List ℕ) (from : ℕ) where
           → cond (ltb (first_of mark (drop from s)) (length (drop from s))) (cut (take (first_of mark (drop from s)) (drop from s)) (drop (first_of mark (drop from s) + 1) (drop from s))) whole ≡ whole
       go true q e = let z : ◌≡◌ {A = ℕ} 0 1 = cc in absurd (omega arith)
       go false q e = rw (le-ltb (first_of mark (drop from s)) (length (drop from s)) (omega (arith, length-drop from s, ltb-false (from + first_of mark (drop from s)) (length s) q)))
+
+-- what is cut off where a search finds its mark, and nothing where it finds none
+module _ (mark s : List ℕ) where
+  pub found-cut : (i : ℕ) → first_from mark s 0 ≡ Some i → cut_at mark s ≡ cut (part s 0 i) (part s (i + 1) (length s))
+  found-cut i e =
+      let z : i - 0 ≡ i = omega arith in
+      cut_there mark s 0 i e ∙ ap (λ (k : ℕ). cut (part s 0 k) (drop (i + 1) s)) z ∙ ap (cut (part s 0 i)) (sym (part-rest s (i + 1)))
+
+  pub found_none : first_from mark s 0 ≡ None → cut_at mark s ≡ whole
+  found_none e = cut-nowhere mark s 0 e

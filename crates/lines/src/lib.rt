@@ -2,6 +2,7 @@
 #![tactic(auto)]
 
 pub mod args;
+pub mod cut;
 pub mod hex;
 pub mod input;
 pub mod number;
