@@ -1,25 +1,63 @@
 -- Laws of numbers as bytes, over the byte order and the width: what is written is read, and what is read is written again. Assumes nothing.
-use Prim.Native.Nat.{ℕ, zero, suc, ◌+◌, ◌*◌, ◌/◌, ◌%◌, ◌≤◌, ◌<◌}
+use Prim.Native.Nat.{ℕ, zero, suc, ◌+◌, ◌-◌, ◌*◌, ◌/◌, ◌%◌, ◌≤◌, ◌<◌}
 use mathlib.Core.Path.{◌≡◌, refl, sym, ap, ◌∙◌}
 use mathlib.Core.List.{List, [], ◌∷◌, reverse, reverse_aux, reverse-reverse}
 use native.Mathlib.Omega.{arith}
 use native.Mathlib.Numerals.{add-one}
 use lib.ListN.{length, take, drop, get_or, length-drop, length-reverse}
 use lib.Seq.{drop-cons, length-take-le}
+use borrow.Rule.Slice.PartMut.{put_mid}
+use Rattle.std.specs.Int.{w32, from_le_bytes, from_be_bytes}
 use Rattle.text.specs.Bytes.{part}
 use Rattle.pcap.specs.Number.{low_first, value, bytes_of, value_of}
 use Rattle.pcap.specs.declared.ByteOrder.{ByteOrder}
 use Rattle.pcap.specs.declared.ByteOrder.TheVariants.{Little, Big}
 
+-- what the library's methods make of four bytes, of which those that a shorter number leaves are 0
+abbrev zeros : List ℕ
+zeros = 0 ∷ 0 ∷ 0 ∷ 0 ∷ []
+
+low_padded : (t : List ℕ) → length t ≤ 4 → from_le_bytes w32 (put_mid 0 (length t) zeros t) ≡ value t
+unfolding value
+low_padded [] h = refl
+low_padded (a ∷ []) h = omega arith
+low_padded (a ∷ b ∷ []) h = omega arith
+low_padded (a ∷ b ∷ c ∷ []) h = omega arith
+low_padded (a ∷ b ∷ c ∷ d ∷ []) h = omega arith
+low_padded (a ∷ b ∷ c ∷ d ∷ e ∷ t) h = absurd (omega arith)
+
+high_padded : (t : List ℕ) → length t ≤ 4 → from_be_bytes w32 (put_mid (4 - length t) (4 - (4 - length t)) zeros t) ≡ value (reverse t)
+unfolding value
+high_padded [] h = refl
+high_padded (a ∷ []) h = omega arith
+high_padded (a ∷ b ∷ []) h = omega arith
+high_padded (a ∷ b ∷ c ∷ []) h = omega arith
+high_padded (a ∷ b ∷ c ∷ d ∷ []) h = omega arith
+high_padded (a ∷ b ∷ c ∷ d ∷ e ∷ t) h = absurd (omega arith)
+
+low_of : (t b : List ℕ) (w : ℕ) → b ≡ t → w ≡ length t → w ≤ 4 → from_le_bytes w32 (put_mid 0 w zeros b) ≡ value t
+low_of t b w e l k = rw (e, l) (low_padded t (omega arith))
+
+high_of : (t b : List ℕ) (w : ℕ) → b ≡ t → w ≡ length t → w ≤ 4 → from_be_bytes w32 (put_mid (4 - w) (4 - (4 - w)) zeros b) ≡ value (reverse t)
+high_of t b w e l k = rw (e, l) (high_padded t (omega arith))
+
+-- so it is the number of a part whose bytes stand there
+module _ (s : List ℕ) (at w : ℕ) (h : at + w ≤ length s) (k : w ≤ 4) (b : List ℕ) (e : b ≡ take (at + w - at) (drop at s)) where
+  is_part : (b ≡ part s at w) × (length (part s at w) ≡ w)
+  unfolding part
+  is_part = let m : at + w - at ≡ w = omega arith in (rw m at e, length-take-le w (drop at s) (omega (arith, length-drop at s)))
+
+  pub low_number : (n : ℕ) → n ≡ from_le_bytes w32 (put_mid 0 w zeros b) → n ≡ value (part s at w)
+  low_number n p = p ∙ low_of (part s at w) b w is_part.0 (sym is_part.1) k
+
+  pub high_number : (n : ℕ) → n ≡ from_be_bytes w32 (put_mid (4 - w) (4 - (4 - w)) zeros b) → n ≡ value (reverse (part s at w))
+  high_number n p = p ∙ high_of (part s at w) b w is_part.0 (sym is_part.1) k
+
 -- the bytes at a place, one by one
 step : (s : List ℕ) (i j : ℕ) → i < length s → j ≡ i + 1 → drop i s ≡ get_or s i 0 ∷ drop j s
 step s i j h e = rw (e, add-one) (drop-cons s i 0 h)
 
-pub two_at : (s : List ℕ) (i : ℕ) → i + 2 ≤ length s → part s i 2 ≡ get_or s i 0 ∷ get_or s (i + 1) 0 ∷ []
-unfolding part
-two_at s i h = rw (step s i (i + 1) (omega arith) refl, step s (i + 1) (i + 2) (omega arith) (omega arith))
-
-pub four_at : (s : List ℕ) (i : ℕ) → i + 4 ≤ length s → part s i 4 ≡ get_or s i 0 ∷ get_or s (i + 1) 0 ∷ get_or s (i + 2) 0 ∷ get_or s (i + 3) 0 ∷ []
+four_at : (s : List ℕ) (i : ℕ) → i + 4 ≤ length s → part s i 4 ≡ get_or s i 0 ∷ get_or s (i + 1) 0 ∷ get_or s (i + 2) 0 ∷ get_or s (i + 3) 0 ∷ []
 unfolding part
 four_at s i h =
     rw (

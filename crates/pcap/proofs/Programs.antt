@@ -129,7 +129,7 @@ header-wrote room n e = go (leb (length (header_bytes Little)) room) e
     go : (k : Bool) → wrote n ≡ outcome (cond k (bytes (header_bytes Little)) (refused 21))
         → (cond k (bytes (header_bytes Little)) (refused 21) ≡ bytes (header_bytes Little)) × (n ≡ length (header_bytes Little))
     go true q = let l : n ≡ length (header_bytes Little) = cc in (refl, l)
-    go false q = let z : ◌≡◌ {A = ℕ} 0 1 = cc in absurd (omega arith)
+    go false q = absurd cc
 
 record_wrote : (room a b : ℕ) (f : List ℕ) (n : ℕ) → wrote n ≡ outcome (record_out room a b f)
     → (record_out room a b f ≡ bytes (record_bytes Little a b f)) × (n ≡ length (record_bytes Little a b f)) × (b ≤ 999999) × (length f ≤ 4099)
@@ -142,9 +142,9 @@ record_wrote room a b f n e = go (leb b 999999) (leb (length f) 4099) (leb (leng
     go true true true p q e =
         let s : n ≡ length (record_bytes Little a b f) = cc in
         (refl, s, leb-true b 999999 p, leb-true (length f) 4099 q)
-    go true true false p q e = let z : ◌≡◌ {A = ℕ} 0 1 = cc in absurd (omega arith)
-    go true false k p q e = let z : ◌≡◌ {A = ℕ} 0 1 = cc in absurd (omega arith)
-    go false m k p q e = let z : ◌≡◌ {A = ℕ} 0 1 = cc in absurd (omega arith)
+    go true true false p q e = absurd cc
+    go true false k p q e = absurd cc
+    go false m k p q e = absurd cc
 
 -- a record has at most 4,115 bytes
 pub record_wrote-few : (room a b : ℕ) (f : List ℕ) (n : ℕ) → wrote n ≡ outcome (record_out room a b f) → n ≤ 4115
@@ -196,7 +196,7 @@ module _ (κs : Lfts 1) (s : Bor (List ℕ)) (o : ByteOrder) (ours : Bool) (begi
 
 -- a refused write has changed no byte
 unchanged : (buf : List ℕ) (n : ℕ) (x : Written) → refusal n ≡ outcome x → after buf x ≡ buf
-unchanged buf n (bytes f) e = let z : ◌≡◌ {A = ℕ} 0 1 = cc in absurd (omega arith)
+unchanged buf n (bytes f) e = absurd cc
 unchanged buf n (refused m) e = refl
 
 pub refused-header_unchanged : (κs : Lfts 1) (a : Dens κs write-header.Kinds.ps) (e : AtExit (ended_of 1 write-header.Kinds.ps write-header.Kinds.r) κs) (x : CaptureError)

@@ -1,5 +1,5 @@
 -- Laws of what is read: a header, the end, a refused record, and a record that is found, with its numbers and places. Assumes nothing.
-use Prim.Native.Nat.{ℕ, ◌+◌, ◌≤◌, ◌<◌}
+use Prim.Native.Nat.{ℕ, ◌+◌, ◌-◌, ◌≤◌, ◌<◌}
 use mathlib.Core.Path.{◌≡◌, refl, sym, ap, ◌∙◌}
 use mathlib.Core.List.{List, [], ◌∷◌}
 use mathlib.Core.Bool.{Bool, true, false, cond, ◌&&◌}
@@ -20,10 +20,10 @@ use Rattle.pcap.specs.declared.ByteOrder.TheVariants.{Little, Big}
 -- where the fixed fields of a header agree, all do exactly if the free ones do
 free_decide : (a b c d x y z : Bool) → (a && (b && (c && (d && true)))) ≡ true → (a && (b && (c && (x && (y && (z && (d && true))))))) ≡ (x && (y && (z && true)))
 free_decide true true true true x y z e = refl
-free_decide true true true false x y z e = let z : ◌≡◌ {A = ℕ} 0 1 = cc in absurd (omega arith)
-free_decide true true false d x y z e = let z : ◌≡◌ {A = ℕ} 0 1 = cc in absurd (omega arith)
-free_decide true false c d x y z e = let z : ◌≡◌ {A = ℕ} 0 1 = cc in absurd (omega arith)
-free_decide false b c d x y z e = let z : ◌≡◌ {A = ℕ} 0 1 = cc in absurd (omega arith)
+free_decide true true true false x y z e = absurd cc
+free_decide true true false d x y z e = absurd cc
+free_decide true false c d x y z e = absurd cc
+free_decide false b c d x y z e = absurd cc
 
 pub ours_by_three : (o : ByteOrder) (s : List ℕ) → matches o s 0 header ≡ true → matches o s 0 (exactly header) ≡ matches o s 8 (exactly (take 3 (drop 3 header)))
 unfolding matches
@@ -41,8 +41,8 @@ header_read s o ours e = go (leb 24 (length s)) (matches Little s 0 header) (mat
         → (24 ≤ length s) × (matches o s 0 (exactly header) ≡ ours)
     go true true n k q = let p : Little ≡ o = cc in (leb-true 24 (length s) k, rw (← p) (let r : matches Little s 0 (exactly header) ≡ ours = cc in r))
     go true false true k q = let p : Big ≡ o = cc in (leb-true 24 (length s) k, rw (← p) (let r : matches Big s 0 (exactly header) ≡ ours = cc in r))
-    go true false false k q = let z : ◌≡◌ {A = ℕ} 0 1 = cc in absurd (omega arith)
-    go false m n k q = let z : ◌≡◌ {A = ℕ} 0 1 = cc in absurd (omega arith)
+    go true false false k q = absurd cc
+    go false m n k q = absurd cc
 
 -- the last of five tests fails where the others pass
 last_fails : (a b c d e : Bool) → (a ≡ true → b ≡ true → c ≡ true → d ≡ true → e ≡ false) → (a && (b && (c && (d && e)))) ≡ false
@@ -85,6 +85,9 @@ module _ (o : ByteOrder) (at : ℕ) (t : List ℕ) where
 pub at_place : (o : ByteOrder) (s t : List ℕ) (at : ℕ) (x : Outcome) → t ≡ part s at (length s) → record_in o at t ≡ x → x ≡ read_record o s at
 at_place o s t at x e q = sym q ∙ ap (record_in o at) (e ∙ part-rest s at)
 
+pub left_there : (s : List ℕ) (at : ℕ) {t : List ℕ} → t ≡ part s at (length s) → length t ≡ length s - at
+left_there s at e = ap length (e ∙ part-rest s at) ∙ length-drop at s
+
 passed : (a b c d e : Bool) → (a && (b && (c && (d && e)))) ≡ true → (b ≡ true) × (c ≡ true) × (d ≡ true) × (e ≡ true)
 passed a b c d e h =
     let h₁ = and_right a (b && (c && (d && e))) h in
@@ -111,8 +114,8 @@ is_found o at t a b start len past e = go (eqb (length t) 0) (sound o t) refl e
     go : (z y : Bool) → sound o t ≡ y
         → cond z end (cond y (found (number o t 0) (number o t 4) (at + 16) (number o t 8) (at + 16 + number o t 8)) (refusal 20)) ≡ found a b start len past
         → Is o at t a b start len past
-    go true y k q = let z : ◌≡◌ {A = ℕ} 0 1 = cc in absurd (omega arith)
-    go false false k q = let z : ◌≡◌ {A = ℕ} 0 1 = cc in absurd (omega arith)
+    go true y k q = absurd cc
+    go false false k q = absurd cc
     go false true k q =
         let n : number o t 8 ≡ len = cc in
         let m : number o t 4 ≡ b = cc in
@@ -158,5 +161,5 @@ is-end o at t e = go (eqb (length t) 0) (sound o t) refl e
     go : (z y : Bool) → eqb (length t) 0 ≡ z
         → cond z end (cond y (found (number o t 0) (number o t 4) (at + 16) (number o t 8) (at + 16 + number o t 8)) (refusal 20)) ≡ end → t ≡ []
     go true y k q = is_nil t (eqb-true (length t) 0 k)
-    go false true k q = let z : ◌≡◌ {A = ℕ} 0 1 = cc in absurd (omega arith)
-    go false false k q = let z : ◌≡◌ {A = ℕ} 0 1 = cc in absurd (omega arith)
+    go false true k q = absurd cc
+    go false false k q = absurd cc

@@ -100,9 +100,9 @@ module _ (o : ByteOrder) (s : List ℕ) (h : Bytes s) where
 
   none_again : (at : ℕ) (x : Outcome) → read_record o s at ≡ x → go_on s at x (λ past. run_at o s past) ≡ whole at [] → Again at []
   unfolding records
-  none_again at (found a b start len past) e q = let z : ◌≡◌ {A = ℕ} 0 1 = cc in absurd (omega arith)
+  none_again at (found a b start len past) e q = absurd cc
   none_again at end e q = (is-end o at (drop at s) e, tt)
-  none_again at (refusal n) e q = let z : ◌≡◌ {A = ℕ} 0 1 = cc in absurd (omega arith)
+  none_again at (refusal n) e q = absurd cc
 
   one_again : (at c d : ℕ) (f : List ℕ) (es : List Entry) → ((past : ℕ) → run_at o s past ≡ whole past es → Again past es) → (x : Outcome) → read_record o s at ≡ x
       → go_on s at x (λ past. run_at o s past) ≡ whole at (entry c d f ∷ es) → Again at (entry c d f ∷ es)
@@ -116,8 +116,8 @@ module _ (o : ByteOrder) (s : List ℕ) (h : Bytes s) where
       let n : past ≡ at + 16 + length f = r.passes ∙ ap (λ (k : ℕ). at + 16 + k) (sym (found-places o s at a b start len past e).5 ∙ ap length q₃) in
       let rest = m past (q₄ ∙ ap (λ (k : ℕ). whole k es) (sym n)) in
       (sym (record_again at a b start len past e) ∙ rw (q₁, q₂, q₃, rest.0), (rw (← q₁, ← q₂, ← q₃) (found-fits at a b start len past e), rest.1))
-  one_again at c d f es m end e q = let z : ◌≡◌ {A = ℕ} 0 1 = cc in absurd (omega arith)
-  one_again at c d f es m (refusal n) e q = let z : ◌≡◌ {A = ℕ} 0 1 = cc in absurd (omega arith)
+  one_again at c d f es m end e q = absurd cc
+  one_again at c d f es m (refusal n) e q = absurd cc
 
   pub run_again : (es : List Entry) (at : ℕ) → run_at o s at ≡ whole at es → Again at es
   run_again [] at q = none_again at (read_record o s at) refl (sym (run_on o s at) ∙ q)

@@ -8,14 +8,10 @@ use text::put::put;
 pub fn write_header(buf: &mut [u8]) -> Result<usize, CaptureError>
     ensures { Writes buf.old (header_out (length buf.old)) result buf.new }
 {
-    if buf.len() < 24 {
-        return Err(CaptureError::CaptureBufferTooSmall);
-    }
     let head = [
         0xD4u8, 0xC3, 0xB2, 0xA1, 2, 0, 4, 0, 0, 0, 0, 0, 0, 0, 0, 0, 3, 16, 0, 0, 147, 0, 0, 0,
     ];
-    put(buf, 0, &head);
-    Ok(24)
+    put(buf, 0, &head).ok_or(CaptureError::CaptureBufferTooSmall)
 }
 
 pub fn write_record(
@@ -26,34 +22,18 @@ pub fn write_record(
 ) -> Result<usize, CaptureError>
     ensures { Writes buf.old (record_out (length buf.old) seconds microseconds frame.now) result buf.new }
 {
-    if 999999 < microseconds {
-        return Err(CaptureError::CaptureRecordInvalid);
-    }
     let n = frame.len();
-    if 4099 < n {
+    if 999999 < microseconds || 4099 < n {
         return Err(CaptureError::CaptureRecordInvalid);
     }
     if buf.len() < 16 + n {
         return Err(CaptureError::CaptureBufferTooSmall);
     }
-    let head = [
-        (seconds % 256) as u8,
-        (seconds / 256 % 256) as u8,
-        (seconds / 256 / 256 % 256) as u8,
-        (seconds / 256 / 256 / 256 % 256) as u8,
-        (microseconds % 256) as u8,
-        (microseconds / 256 % 256) as u8,
-        (microseconds / 256 / 256 % 256) as u8,
-        (microseconds / 256 / 256 / 256 % 256) as u8,
-        (n % 256) as u8,
-        (n / 256 % 256) as u8,
-        (n / 256 / 256 % 256) as u8,
-        (n / 256 / 256 / 256 % 256) as u8,
-        (n % 256) as u8,
-        (n / 256 % 256) as u8,
-        (n / 256 / 256 % 256) as u8,
-        (n / 256 / 256 / 256 % 256) as u8,
-    ];
+    let mut head = [0u8; 16];
+    head[..4].copy_from_slice(&seconds.to_le_bytes());
+    head[4..8].copy_from_slice(&microseconds.to_le_bytes());
+    head[8..12].copy_from_slice(&(n as u32).to_le_bytes());
+    head[12..].copy_from_slice(&(n as u32).to_le_bytes());
     put(buf, 0, &head);
     put(buf, 16, frame);
     Ok(16 + n)

@@ -1,79 +1,50 @@
-use mathlib.Core.Path.{ap, ◌∙◌}
+use mathlib.Core.Path.{sym}
 use native.Mathlib.Omega.{arith}
-use lib.ListN.{length, length-drop}
-use Rattle.text.proofs.BytesLaws.{part-rest}
-use Rattle.pcap.proofs.ReadLaws.{at_place, record_end, record_bad, record_good}
+use borrow.Author.Tests.{eqb-true, eqb-false}
+use Rattle.pcap.proofs.ReadLaws.{at_place, left_there, record_end, record_bad, record_good}
 use Rattle.pcap.proofs.read.read_record.Goals as goal
+use Rattle.pcap.proofs.read.read_record.Goals.{then-microseconds-gt999999-via-then-microseconds-gt999999, then-microseconds-gt999999-via-else-microseconds-gt999999+then-in_file-number_at, then-microseconds-gt999999-via-else-microseconds-gt999999+else-in_file-number_at+then-in_file-gt4099, then-microseconds-gt999999-via-else-microseconds-gt999999+else-in_file-number_at+else-in_file-gt4099+then-t-len}
 
-pub returns-then-left-eq0 : goal.returns-then-left-eq0
-returns-then-left-eq0 c =
+pub returns-then-is_empty : goal.returns-then-is_empty
+returns-then-is_empty c =
     let a = c.args in
     let p = c.part-t in
-    at_place a.order a.s.now p.result.now a.at _ p.ensures (record_end a.order a.at p.result.now (omega arith))
+    at_place a.order a.s.now p.result.now a.at _ p.ensures (record_end a.order a.at p.result.now (eqb-true _ 0 (sym c.if-is_empty.ensures)))
 
-pub returns-then-left-lt16 : goal.returns-then-left-lt16
-returns-then-left-lt16 c =
+pub returns-then-t-lt16 : goal.returns-then-t-lt16
+returns-then-t-lt16 c =
     let a = c.args in
     let p = c.part-t in
     at_place a.order a.s.now p.result.now a.at _ p.ensures
-    (record_bad a.order a.at p.result.now (λ z. omega arith) (λ i j k l. omega arith))
+    (record_bad a.order a.at p.result.now (eqb-false _ 0 (sym c.if-is_empty.ensures)) (λ i j k l. omega arith))
 
 pub returns-then-microseconds-gt999999 : goal.returns-then-microseconds-gt999999
 returns-then-microseconds-gt999999 c =
     let a = c.args in
     let p = c.part-t in
+    let y = c.number_at-microseconds.ensures in
+    let z = c.number_at-in_file.ensures in
     at_place a.order a.s.now p.result.now a.at _ p.ensures
-    (record_bad a.order a.at p.result.now (λ z. omega arith) (λ i j k l. omega (arith, c.long-microseconds.ensures)))
+    (record_bad a.order a.at p.result.now (λ e. omega arith) (λ i j k l. elim c.then-microseconds-gt999999.branch [
+      | then-microseconds-gt999999-via-then-microseconds-gt999999 w ↦ omega arith
+      | then-microseconds-gt999999-via-else-microseconds-gt999999+then-in_file-number_at w ↦ let u = w.number_at.ensures in omega arith
+      | then-microseconds-gt999999-via-else-microseconds-gt999999+else-in_file-number_at+then-in_file-gt4099 w ↦ omega arith
+      | then-microseconds-gt999999-via-else-microseconds-gt999999+else-in_file-number_at+else-in_file-gt4099+then-t-len w ↦ omega arith
+    ]))
 
-pub returns-then-in_file-long : goal.returns-then-in_file-long
-returns-then-in_file-long c =
-    let a = c.args in
-    let p = c.part-t in
-    at_place a.order a.s.now p.result.now a.at _ p.ensures
-    (record_bad a.order a.at p.result.now (λ z. omega arith) (λ i j k l. omega (arith, c.long.ensures, c.long-in_file.ensures)))
-
-pub returns-then-in_file-gt4099 : goal.returns-then-in_file-gt4099
-returns-then-in_file-gt4099 c =
-    let a = c.args in
-    let p = c.part-t in
-    at_place a.order a.s.now p.result.now a.at _ p.ensures
-    (record_bad a.order a.at p.result.now (λ z. omega arith) (λ i j k l. omega (arith, c.long-in_file.ensures)))
-
-pub returns-then-left-len : goal.returns-then-left-len
-returns-then-left-len c =
-    let a = c.args in
-    let p = c.part-t in
-    at_place a.order a.s.now p.result.now a.at _ p.ensures
-    (record_bad a.order a.at p.result.now (λ z. omega arith) (λ i j k l. omega (arith, c.long-in_file.ensures)))
+pub overflow_add-start : goal.overflow_add-start
+overflow_add-start c = omega (arith, left_there c.args.s.now c.args.at c.part-t.ensures)
 
 pub overflow_add-result : goal.overflow_add-result
-overflow_add-result c =
-    let a = c.args in
-    let p = c.part-t in
-    let l = ap length (p.ensures ∙ part-rest a.s.now a.at) ∙ length-drop a.at a.s.now in
-    omega arith
-
-pub overflow_add-result-2 : goal.overflow_add-result-2
-overflow_add-result-2 c =
-    let a = c.args in
-    let p = c.part-t in
-    let l = ap length (p.ensures ∙ part-rest a.s.now a.at) ∙ length-drop a.at a.s.now in
-    omega arith
-
-pub overflow_add-result-3 : goal.overflow_add-result-3
-overflow_add-result-3 c =
-    let a = c.args in
-    let p = c.part-t in
-    let l = ap length (p.ensures ∙ part-rest a.s.now a.at) ∙ length-drop a.at a.s.now in
-    omega arith
+overflow_add-result c = omega (arith, left_there c.args.s.now c.args.at c.part-t.ensures)
 
 pub returns : goal.returns
 returns c =
     let a = c.args in
     let p = c.part-t in
-    let y = c.long-microseconds.ensures in
-    let z = c.long-in_file.ensures in
-    let u = c.long.ensures in
-    rw (c.long-2.ensures, y, z)
+    let y = c.number_at-microseconds.ensures in
+    let z = c.number_at-in_file.ensures in
+    let u = c.number_at.ensures in
+    rw (c.number_at-2.ensures, y, z)
     (at_place a.order a.s.now p.result.now a.at _ p.ensures
     (record_good a.order a.at p.result.now (omega arith) (omega arith) (omega arith) (omega arith) (omega arith)))

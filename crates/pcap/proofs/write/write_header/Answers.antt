@@ -1,11 +1,8 @@
-use mathlib.Core.Path.{refl}
-use native.Mathlib.Omega.{arith}
-use Rattle.pcap.proofs.WriteLaws.{refuses, puts, header_list, header-fits, header-over}
+use Rattle.pcap.specs.Write.{header_out}
+use Rattle.pcap.proofs.WriteLaws.{put_or_full, header_list, header_list_lem}
 use Rattle.pcap.proofs.write.write_header.Goals as goal
 
 -- `write::write_header` meets its contract. Assumes nothing.
-pub returns-then-buf-lt24 : goal.returns-then-buf-lt24
-returns-then-buf-lt24 c = refuses _ 21 (header-over _ (omega arith)) refl
-
 pub returns : goal.returns
-returns c = puts _ header_list _ 24 (header-fits _ (omega arith)) refl (omega arith) c.put.ensures.1
+unfolding header_out
+returns c = rw header_list_lem (put_or_full _ header_list _ _ _ c.put.ensures.0 c.put.ensures.1 c.ok_or.ensures.value)
