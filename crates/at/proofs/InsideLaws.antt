@@ -13,8 +13,7 @@ use Rattle.text.specs.Number.{Num, some, none, number}
 use Rattle.text.specs.Find.{crlf, first_of, last_of}
 use Rattle.text.specs.Utf8.{utf8}
 use Rattle.text.specs.Field.{Field, field, grow, fields_from}
-use Rattle.text.specs.declared.find.Found.{Found}
-use Rattle.text.specs.declared.find.Found.TheVariants.{At, Nothing}
+use Rattle.std.specs.Prelude.{Option, Some, None}
 use Rattle.text.proofs.BytesLaws.{starts_length}
 use Rattle.text.proofs.Utf8Joined.{utf8_nil}
 use Rattle.text.proofs.Bools.{either}
@@ -240,9 +239,9 @@ module _ (n : ℕ) where
 
   -- A response
 
-  by_last_lem : (p : ℕ) (t : List ℕ) → p + length t ≤ n → (f : Found) → last_of crlf t ≡ f → ResponseInside n (by_last p t f)
-  by_last_lem p t h (At i) e = either (ResponseInside n) (same (drop (i + 2) t) (bytes "OK")) (omega (arith, last_fits t i e)) h
-  by_last_lem p t h Nothing e = h
+  by_last_lem : (p : ℕ) (t : List ℕ) → p + length t ≤ n → (f : Option ℕ) → last_of crlf t ≡ f → ResponseInside n (by_last p t f)
+  by_last_lem p t h (Some i) e = either (ResponseInside n) (same (drop (i + 2) t) (bytes "OK")) (omega (arith, last_fits t i e)) h
+  by_last_lem p t h None e = h
 
   response-body : (p : ℕ) (t : List ℕ) → p + length t ≤ n → ResponseInside n (read_response_body p t)
   unfolding read_response_body

@@ -1,15 +1,16 @@
 -- Laws of an event in parts: one value, and that the parts of an event are one thing.
-use Prim.Native.Nat.{ℕ, zero, suc, ◌+◌}
+use Prim.Native.Nat.{ℕ, zero, suc, ◌+◌, ◌≤◌}
 use mathlib.Core.Path.{◌≡◌, refl, sym, ap, ◌∙◌}
-use mathlib.Core.List.{List, [], ◌∷◌}
+use mathlib.Core.List.{List, [], ◌∷◌, ◌++◌, map, replicate}
 use mathlib.Core.Bool.{Bool, true, ◌&&◌}
 use native.Mathlib.Omega.{arith}
 use borrow.Author.Tests.{eqb-true, eqb-false}
 use lib.Dec.{eqb}
+use lib.ListN.{length, drop, length-map}
 use Rattle.text.proofs.Bools.{and_left, and_right}
 use Rattle.at.specs.Refusal.{good}
 use Rattle.at.specs.Event.{Row, Event, event}
-use Rattle.at.specs.Parts.{value_of, values_of, row_no, number_in, with_row, part_of, Apart}
+use Rattle.at.specs.Parts.{value_of, values_of, row_no, number_in, with_row, part_of, parts_of, Apart}
 use Rattle.at.specs.declared.parts.Value.{Value}
 use Rattle.at.specs.declared.parts.Value.TheVariants as value
 use Rattle.at.specs.declared.parts.Parts.{Parts}
@@ -19,6 +20,23 @@ use Rattle.at.proofs.TableLaws.{row_listed}
 pub part_of_value : (v : Value) → part_of (value_of v) ≡ v
 part_of_value (value.Number n) = refl
 part_of_value (value.Place t) = refl
+
+-- up to seven values, filled up with the number 0, are those of the parts
+filled : (vs : List Value) → length vs ≤ 7 → vs ++ drop (length vs) (replicate 7 (value.Number 0)) ≡ (parts_of 0 (map value_of vs)).values
+filled [] h = refl
+filled (a ∷ []) h = rw (part_of_value a)
+filled (a ∷ b ∷ []) h = rw (part_of_value a, part_of_value b)
+filled (a ∷ b ∷ c ∷ []) h = rw (part_of_value a, part_of_value b, part_of_value c)
+filled (a ∷ b ∷ c ∷ d ∷ []) h = rw (part_of_value a, part_of_value b, part_of_value c, part_of_value d)
+filled (a ∷ b ∷ c ∷ d ∷ e ∷ []) h = rw (part_of_value a, part_of_value b, part_of_value c, part_of_value d, part_of_value e)
+filled (a ∷ b ∷ c ∷ d ∷ e ∷ f ∷ []) h = rw (part_of_value a, part_of_value b, part_of_value c, part_of_value d, part_of_value e, part_of_value f)
+filled (a ∷ b ∷ c ∷ d ∷ e ∷ f ∷ g ∷ []) h =
+    rw (part_of_value a, part_of_value b, part_of_value c, part_of_value d, part_of_value e, part_of_value f, part_of_value g)
+filled (a ∷ b ∷ c ∷ d ∷ e ∷ f ∷ g ∷ v ∷ vs) h = absurd (omega arith)
+
+pub filled_parts : (row n : ℕ) (vs : List Value) → length vs ≡ n → n ≤ 7
+    → record { row = row; count = n; values = vs ++ drop n (replicate 7 (value.Number 0)) } ≡ parts_of row (map value_of vs)
+filled_parts row n vs l h = rw (← l, filled vs (rw l h), length-map)
 
 -- each row of a table is the first that has its name and its kinds, counted from a number on
 unfoldable pub firsts : List Row → ℕ → List Row → Bool

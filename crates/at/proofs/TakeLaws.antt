@@ -7,11 +7,12 @@ use native.Mathlib.Numerals.{add-one}
 use native.Mathlib.Omega.{arith}
 use lib.ListN.{length, get_or, take, drop, set, length-set, drop_of_length-le}
 use lib.Seq.{drop-cons, take_all, get_or-set_same, get_or-set_other}
+use Rattle.std.specs.Prelude.{Some, None}
 use Rattle.text.specs.Bytes.{part}
 use Rattle.text.specs.Field.{Field as Part, next_field}
 use Rattle.text.specs.FieldSteps.{left}
 use Rattle.text.specs.declared.field.Fields.{Fields}
-use Rattle.text.specs.declared.field.Next.TheVariants as next
+use Rattle.text.specs.declared.field.Next.{Next}
 use Rattle.at.specs.Refusal.{Refusal, missing, OrRefused, good, refused}
 use Rattle.at.specs.Event.{Value, read_field, Read, values, prepend, take_kinds}
 use Rattle.at.specs.Steps.{kind_of, kinds_in, no_field, value_of, values_of, without_rest, field_in, fields_from, fields_in}
@@ -60,26 +61,26 @@ values-more ks i fs f h l =
 
 -- what is left to take, by what the walk finds
 module _ (ks : List ℕ) (i : ℕ) (s : List ℕ) (w : Fields) (h : i < length ks) where
-  pub take-missing : next_field s w ≡ next.Done → take_kinds (suc i) (kinds_in (drop i ks)) (left s w) ≡ refused (missing (suc i))
+  pub take-missing : next_field s w ≡ None → take_kinds (suc i) (kinds_in (drop i ks)) (left s w) ≡ refused (missing (suc i))
   unfolding take_kinds
   take-missing e = rw (drop-cons ks i 0 h, no-field (suc i) (kind_of (get_or ks i 0)) s w e)
 
-  module _ (start len : ℕ) (rest : Fields) (e : next_field s w ≡ next.Field start len rest) where
-    pub take-refused : (n : Refusal) → read_field (suc i) (kind_of (get_or ks i 0)) start (part s start len) ≡ refused n → take_kinds (suc i) (kinds_in (drop i ks)) (left s w) ≡ refused n
+  module _ (n : Next) (e : next_field s w ≡ Some n) where
+    pub take-refused : (m : Refusal) → read_field (suc i) (kind_of (get_or ks i 0)) n.start (part s n.start n.len) ≡ refused m → take_kinds (suc i) (kinds_in (drop i ks)) (left s w) ≡ refused m
     unfolding take_kinds
-    take-refused n r = rw (drop-cons ks i 0 h, some-field (suc i) (kind_of (get_or ks i 0)) s w e, r)
+    take-refused m r = rw (drop-cons ks i 0 h, some-field (suc i) (kind_of (get_or ks i 0)) s w e, r)
 
-    take-one : (v : Value) → read_field (suc i) (kind_of (get_or ks i 0)) start (part s start len) ≡ good v
-        → take_kinds (suc i) (kinds_in (drop i ks)) (left s w) ≡ prepend v (take_kinds (suc (suc i)) (kinds_in (drop (suc i) ks)) (left s rest))
+    take-one : (v : Value) → read_field (suc i) (kind_of (get_or ks i 0)) n.start (part s n.start n.len) ≡ good v
+        → take_kinds (suc i) (kinds_in (drop i ks)) (left s w) ≡ prepend v (take_kinds (suc (suc i)) (kinds_in (drop (suc i) ks)) (left s n.rest))
     unfolding take_kinds
     take-one v r = rw (drop-cons ks i 0 h, some-field (suc i) (kind_of (get_or ks i 0)) s w e, r)
 
-    pub one_more : (fs : List Field) (f : Field) → i < length fs → read_field (suc i) (kind_of (get_or ks i 0)) start (part s start len) ≡ good (value_of (kind_of (get_or ks i 0)) f)
+    pub one_more : (fs : List Field) (f : Field) → i < length fs → read_field (suc i) (kind_of (get_or ks i 0)) n.start (part s n.start n.len) ≡ good (value_of (kind_of (get_or ks i 0)) f)
         → ahead (values_of (kinds_in (take i ks)) 0 fs) (take_kinds (suc i) (kinds_in (drop i ks)) (left s w))
-        ≡ ahead (values_of (kinds_in (take (i + 1) ks)) 0 (set fs i f)) (take_kinds (suc (i + 1)) (kinds_in (drop (i + 1) ks)) (left s rest))
+        ≡ ahead (values_of (kinds_in (take (i + 1) ks)) 0 (set fs i f)) (take_kinds (suc (i + 1)) (kinds_in (drop (i + 1) ks)) (left s n.rest))
     one_more fs f l r =
         rw (take-one (value_of (kind_of (get_or ks i 0)) f) r, add-one i, values-more ks i fs f h l)
-        (sym (ahead_snoc (values_of (kinds_in (take i ks)) 0 fs) (value_of (kind_of (get_or ks i 0)) f) (take_kinds (suc (suc i)) (kinds_in (drop (suc i) ks)) (left s rest))))
+        (sym (ahead_snoc (values_of (kinds_in (take i ks)) 0 fs) (value_of (kind_of (get_or ks i 0)) f) (take_kinds (suc (suc i)) (kinds_in (drop (suc i) ks)) (left s n.rest))))
 
 pub all_taken : (ks : List ℕ) (i : ℕ) (fs : List Field) (ps : List Part) → length ks ≤ i
     → without_rest (ahead (values_of (kinds_in (take i ks)) 0 fs) (take_kinds (suc i) (kinds_in (drop i ks)) ps)) ≡ good (values (values_of (kinds_in ks) 0 fs) [])

@@ -15,8 +15,7 @@ use Rattle.text.specs.Number.{Num, some, none, number}
 use Rattle.text.specs.Find.{crlf, first_of, last_of}
 use Rattle.text.specs.Utf8.{utf8, inside_character}
 use Rattle.text.specs.Field.{Field, field}
-use Rattle.text.specs.declared.find.Found.{Found}
-use Rattle.text.specs.declared.find.Found.TheVariants.{At, Nothing}
+use Rattle.std.specs.Prelude.{Option, Some, None}
 use Rattle.text.proofs.Bools.{either, by_test}
 use Rattle.text.proofs.BytesLaws.{starts_length}
 use Rattle.text.proofs.NumberLaws.{number_fits}
@@ -217,13 +216,13 @@ module _ (s : List ℕ) where
 
   -- A response
 
-  by_last_lem : (p : ℕ) (t : List ℕ) → Held s p t → (f : Found) → last_of crlf t ≡ f → ResponseTyped s (by_last p t f)
+  by_last_lem : (p : ℕ) (t : List ℕ) → Held s p t → (f : Option ℕ) → last_of crlf t ≡ f → ResponseTyped s (by_last p t f)
   unfolding last_of
-  by_last_lem p t h (At i) e =
+  by_last_lem p t h (Some i) e =
       let l : i ≤ length t = omega (arith, last_fits t i e) in
       let c = held-cut_at s p 13 (10 ∷ []) t i (omega arith) l (below_at crlf t (length t) i e) h in
       either (ResponseTyped s) (same (drop (i + 2) t) (bytes "OK")) (text_at_lem s p i (take i t) (length-take-le i t l) c.0) (text_at_lem s p (length t) t refl h)
-  by_last_lem p t h Nothing e = text_at_lem s p (length t) t refl h
+  by_last_lem p t h None e = text_at_lem s p (length t) t refl h
 
   response-body : (p : ℕ) (t : List ℕ) → Held s p t → ResponseTyped s (read_response_body p t)
   unfolding read_response_body

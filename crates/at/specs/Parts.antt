@@ -1,5 +1,5 @@
 -- An event taken apart: the number of its row in a table, and its values.
-use Rattle.std.specs.Prelude.{ℕ, zero, suc, ◌<◌, ◌≡◌, List, [], ◌∷◌, cond, length, take, get_or}
+use Rattle.std.specs.Prelude.{ℕ, zero, suc, ◌<◌, ◌≡◌, List, [], ◌∷◌, map, cond, length, take, get_or}
 use Rattle.text.specs.Bytes.{same}
 use Rattle.at.specs.Refusal.{OrRefused, good, refused, no}
 use Rattle.at.specs.Event.{Row, Value, num, place, at, Event, event}
@@ -13,9 +13,7 @@ value_of (value.TheVariants.Place t) = at t
 
 -- the first `count` of the seven
 abbrev pub values_of : Parts → List Value
-values_of p =
-    take p.count
-    (value_of p.a ∷ value_of p.b ∷ value_of p.c ∷ value_of p.d ∷ value_of p.e ∷ value_of p.f ∷ value_of p.g ∷ [])
+values_of p = take p.count (map value_of p.values)
 
 -- the row with a number, counted from 0; a number that no row has is no event (16)
 unfoldable pub row_no : List Row → ℕ → OrRefused Row
@@ -50,13 +48,7 @@ parts_of i vs =
     record {
       row = i;
       count = length vs;
-      a = part_no vs 0;
-      b = part_no vs 1;
-      c = part_no vs 2;
-      d = part_no vs 3;
-      e = part_no vs 4;
-      f = part_no vs 5;
-      g = part_no vs 6;
+      values = part_no vs 0 ∷ part_no vs 1 ∷ part_no vs 2 ∷ part_no vs 3 ∷ part_no vs 4 ∷ part_no vs 5 ∷ part_no vs 6 ∷ [];
     }
 
 -- an event in parts, by a table: its row is in the table, the parts together are the event, and they hold nothing else

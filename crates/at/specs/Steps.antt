@@ -1,7 +1,7 @@
 -- What the private answers of the code say in the definitions' terms. No promise of a public function cites this file.
-use Rattle.std.specs.Prelude.{ℕ, zero, suc, ◌+◌, ◌*◌, ◌%◌, ◌^◌, ◌≤◌, ◌<◌, ◌≡◌, List, [], ◌∷◌, map, Bool, false, cond, eqb, length, take, drop, get_or}
+use Rattle.std.specs.Prelude.{ℕ, zero, suc, ◌+◌, ◌*◌, ◌%◌, ◌^◌, ◌≤◌, ◌<◌, ◌≡◌, List, [], ◌∷◌, Result, Ok, Err, map, Bool, false, cond, eqb, length, take, drop, get_or}
 use Prim.Native.Char.{code}
-use Rattle.at.specs.Refusal.{no, invalid, OrRefused, good, refused, refusal_of, refusal_no}
+use Rattle.at.specs.Refusal.{Refusal, no, invalid, OrRefused, good, refused, refusal_of, refusal_no, answered}
 use Rattle.text.specs.Field.{Field as Part}
 use Rattle.at.specs.Event.{Kind, bits, text, ip_type, bt_type, protocol, reason, Row, kinds_of as row_kinds, Value, num, place, at, Event, event, Read, values, read_row}
 use Rattle.at.specs.Line.{Body, body, rows_named, by_type}
@@ -11,22 +11,20 @@ use Rattle.at.specs.Parts.{row_no}
 use Rattle.at.specs.Binary.{Data, data_at}
 use Rattle.at.specs.W26 as w26
 use Rattle.at.specs.declared.Text.{Text}
-use Rattle.at.specs.declared.binary.Marked as mark
-use Rattle.at.specs.declared.binary.Data as data·
-use Rattle.at.specs.declared.binary.AddressFields as address
+use Rattle.at.specs.declared.AtPacketError.{AtPacketError}
+use Rattle.at.specs.declared.binary.Address.{Address}
 use Rattle.at.specs.declared.field.Field.{Field}
-use Rattle.at.specs.declared.field.FieldAnswer as answer
+use Rattle.at.specs.declared.field.Fault.{Fault}
+use Rattle.at.specs.declared.field.Fault.TheVariants.{Unsupported, Invalid}
 use Rattle.at.specs.declared.table.Entry.{Entry}
 use Rattle.at.specs.declared.table.Kinds.{Kinds}
 use Rattle.at.specs.declared.field.Stop as stop
 use Rattle.at.specs.declared.field.Taken.{Taken}
-use Rattle.at.specs.declared.line.Framed as framed
+use Rattle.at.specs.declared.line.Body as line
 use Rattle.at.specs.declared.w26.PeerConnectedProfile.{PeerConnectedProfile}
 use Rattle.at.specs.declared.w26.PeerConnectedProfile.TheVariants as profile
 use Rattle.at.specs.declared.w26.WifiLinkDisconnectedReason.{WifiLinkDisconnectedReason}
 use Rattle.at.specs.declared.w26.WifiLinkDisconnectedReason.TheVariants as why
-use Rattle.at.specs.declared.parts.Value as value
-use Rattle.at.specs.declared.parts.Parts.{Parts}
 
 abbrev pub profile_of : ℕ → PeerConnectedProfile
 profile_of n = cond (eqb n 1) profile.TCP (cond (eqb n 2) profile.UDP profile.MQTT)
@@ -58,10 +56,13 @@ values_of [] i fs = []
 values_of (k ∷ ks) i fs = value_of k (get_or fs i no_field) ∷ values_of ks (suc i) fs
 
 -- what the field i, of a kind, is read as
-abbrev pub one_of : ℕ → Kind → answer.FieldAnswer → OrRefused Value
-one_of i k (answer.TheVariants.Got f) = good (value_of k f)
-one_of i k answer.TheVariants.Unsupported = refused (no 13)
-one_of i k (answer.TheVariants.Invalid why) = refused (invalid i why)
+abbrev pub fault_of : ℕ → Fault → Refusal
+fault_of i Unsupported = no 13
+fault_of i (Invalid why) = invalid i why
+
+abbrev pub one_of : ℕ → Kind → Result Field Fault → OrRefused Value
+one_of i k (Ok f) = good (value_of k f)
+one_of i k (Err w) = refused (fault_of i w)
 
 -- what a row's fields are read as: their values, with any fields after them, or what stopped it
 abbrev pub without_rest : OrRefused Read → OrRefused Read
@@ -88,22 +89,18 @@ abbrev pub Took : List Kind → OrRefused Read → List ℕ → stop.Stop → Ty
 Took ks r ns p = stopped (values_of ks 0 (fields_in ns)) p ≡ without_rest r
 
 -- the framing of a line of s
-abbrev pub framed_of : List ℕ → framed.Framed → OrRefused Body
-framed_of s (framed.TheVariants.Body start end) = good (body start (drop start (take end s)))
-framed_of s (framed.TheVariants.Refused e) = refused (refusal_of e)
+abbrev pub framed_of : List ℕ → Result line.Body AtPacketError → OrRefused Body
+framed_of s r = answered (λ b. body b.start (drop b.start (take b.end s))) r
 
 -- the parts of a binary event
-abbrev pub marked_of : mark.Marked → OrRefused ℕ
-marked_of (mark.TheVariants.After n) = good n
-marked_of (mark.TheVariants.Refused e) = refused (refusal_of e)
+abbrev pub marked_of : Result ℕ AtPacketError → OrRefused ℕ
+marked_of r = answered (λ n. n) r
 
-abbrev pub data_of : data·.Data → OrRefused Data
-data_of (data·.TheVariants.Got t) = good (data_at t.start t.len)
-data_of (data·.TheVariants.Refused e) = refused (refusal_of e)
+abbrev pub data_of : Result Text AtPacketError → OrRefused Data
+data_of r = answered (λ t. data_at t.start t.len) r
 
-abbrev pub address_of : address.AddressFields → OrRefused Read
-address_of (address.TheVariants.Got n ip port) = good (values (num n ∷ at ip ∷ num port ∷ []) [])
-address_of (address.TheVariants.Refused e) = refused (refusal_of e)
+abbrev pub address_of : Result Address AtPacketError → OrRefused Read
+address_of r = answered (λ a. values (num a.socket ∷ at a.ip ∷ num a.port ∷ []) []) r
 
 -- the kind that a letter of a row stands for, and those of its letters
 unfoldable pub kind_of : ℕ → Kind
@@ -176,21 +173,3 @@ read_found (refused n) fs = refused n
 
 abbrev pub read_peer : ℕ → List Part → OrRefused Event
 read_peer i fs = cond (eqb i 0) (by_type (w26.UUDPC ∷ w26.UUDPC-BT ∷ []) fs) (read_found (row_no w26.table i) fs)
-
--- parts with at most five values, and with at most three
-abbrev pub five_parts : ℕ → ℕ → value.Value → value.Value → value.Value → value.Value → value.Value → Parts
-five_parts i n a b c d e =
-    record {
-      row = i;
-      count = n;
-      a = a;
-      b = b;
-      c = c;
-      d = d;
-      e = e;
-      f = value.TheVariants.Number 0;
-      g = value.TheVariants.Number 0;
-    }
-
-abbrev pub three_parts : ℕ → ℕ → value.Value → value.Value → value.Value → Parts
-three_parts i n a b c = five_parts i n a b c (value.TheVariants.Number 0) (value.TheVariants.Number 0)

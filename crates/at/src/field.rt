@@ -4,13 +4,16 @@
 ghost use Rattle.std.specs.Prelude.{◌≡◌, ℕ, ◌+◌, ◌<◌, length};
 ghost use Rattle.text.specs.FieldSteps.{left};
 ghost use Rattle.at.specs.Event.{read_field, take_kinds, bits, ip_type, bt_type, protocol, reason};
-ghost use Rattle.at.specs.Steps.{kind_of, kinds_of, Held, field_in, fields_in, one_of, Took};
+ghost use Rattle.at.specs.Refusal.{refusal_of};
+ghost use Rattle.at.specs.declared.FieldError.TheVariants.{NoNumber};
+ghost use Rattle.at.specs.declared.field.Fault.TheVariants.{Invalid};
+ghost use Rattle.at.specs.Steps.{kind_of, kinds_of, Held, field_in, fields_in, fault_of, one_of, Took};
 
 use crate::table::Kinds;
 use crate::{AtPacketError, FieldError};
 use text::bytes::{part, same};
-use text::field::{Fields, Next};
-use text::number::{Number8, Number16, Number32, read8, read16, read32};
+use text::field::Fields;
+use text::number::{NumberError, Width, read};
 use text::walk::field_at;
 
 // A field that was taken: a number, or the place and the length of a text.
@@ -20,109 +23,127 @@ pub(crate) struct Field {
     pub len: usize,
 }
 
-// What one field is read as, whichever field it is.
+// Why one field is refused, whichever field it is.
 #[derive(Clone, Copy)]
-enum FieldAnswer {
-    Got(Field),
+enum Fault {
     Unsupported,
     Invalid(FieldError),
 }
 
-fn number(value: usize) -> FieldAnswer
-    ensures { result ≡ FieldAnswer.Got (record { value = value; len = 0 }) }
-{
-    FieldAnswer::Got(Field { value, len: 0 })
-}
+impl From<NumberError> for Fault {
+    ghost from_gives = { λ e f. f ≡ Invalid (NoNumber e) };
 
-fn byte_field(field: &[u8]) -> FieldAnswer
-    ensures { (i p : ℕ) → one_of i (bits 8) result ≡ read_field i (bits 8) p field.now }
-{
-    match read8(field) {
-        Number8::Value(n) => number(n as usize),
-        Number8::Refused(e) => FieldAnswer::Invalid(FieldError::NoNumber(e)),
+    fn from(e: NumberError) -> Self {
+        Self::Invalid(FieldError::NoNumber(e))
     }
 }
 
-fn word_field(field: &[u8]) -> FieldAnswer
-    ensures { (i p : ℕ) → one_of i (bits 16) result ≡ read_field i (bits 16) p field.now }
-{
-    match read16(field) {
-        Number16::Value(n) => number(n as usize),
-        Number16::Refused(e) => FieldAnswer::Invalid(FieldError::NoNumber(e)),
+impl Fault {
+    // The refusal of the field with a number.
+    fn of_field(self, field: u8) -> AtPacketError
+        ensures { refusal_of result ≡ fault_of field self }
+    {
+        match self {
+            Self::Unsupported => AtPacketError::TypeDecodeUnsupported,
+            Self::Invalid(why) => AtPacketError::TypeDecodeParameterDataTypeInvalid { field, why },
+        }
     }
 }
 
-fn long_field(field: &[u8]) -> FieldAnswer
-    ensures { (i p : ℕ) → one_of i (bits 32) result ≡ read_field i (bits 32) p field.now }
-{
-    match read32(field) {
-        Number32::Value(n) => number(n as usize),
-        Number32::Refused(e) => FieldAnswer::Invalid(FieldError::NoNumber(e)),
+// A number that a field of some width spells, as `Field` holds it.
+trait Wide: Width {
+    fn wide(self) -> usize
+        ensures { result ≡ Self.value self };
+}
+
+impl Wide for u8 {
+    fn wide(self) -> usize {
+        usize::from(self)
     }
+}
+
+impl Wide for u16 {
+    fn wide(self) -> usize {
+        usize::from(self)
+    }
+}
+
+impl Wide for u32 {
+    fn wide(self) -> usize {
+        self as usize
+    }
+}
+
+fn number(value: usize) -> Field
+    ensures { result ≡ record { value = value; len = 0 } }
+{
+    Field { value, len: 0 }
+}
+
+fn number_field<T: Wide>(field: &[u8]) -> Result<Field, Fault>
+    ensures { (i p : ℕ) → one_of i (bits T.bits) result ≡ read_field i (bits T.bits) p field.now }
+{
+    Ok(number(read::<T>(field)?.wide()))
 }
 
 // The type of an IP peer: exactly `2` or `3`.
-fn ip_type_field(field: &[u8]) -> FieldAnswer
+fn ip_type_field(field: &[u8]) -> Result<Field, Fault>
     ensures { (i p : ℕ) → one_of i ip_type result ≡ read_field i ip_type p field.now }
 {
     if same(field, b"2") {
-        return number(2);
+        return Ok(number(2));
     }
     if same(field, b"3") {
-        return number(3);
+        return Ok(number(3));
     }
-    FieldAnswer::Unsupported
+    Err(Fault::Unsupported)
 }
 
 // The type of a Bluetooth peer: exactly `1`.
-fn bt_type_field(field: &[u8]) -> FieldAnswer
+fn bt_type_field(field: &[u8]) -> Result<Field, Fault>
     ensures { (i p : ℕ) → one_of i bt_type result ≡ read_field i bt_type p field.now }
 {
     if same(field, b"1") {
-        return number(1);
+        return Ok(number(1));
     }
-    FieldAnswer::Unsupported
+    Err(Fault::Unsupported)
 }
 
-fn protocol_field(field: &[u8]) -> FieldAnswer
+fn protocol_field(field: &[u8]) -> Result<Field, Fault>
     ensures { (i p : ℕ) → one_of i protocol result ≡ read_field i protocol p field.now }
 {
-    match read8(field) {
-        Number8::Value(n) => match n {
-            1 => number(1),
-            2 => number(2),
-            6 => number(6),
-            _ => FieldAnswer::Invalid(FieldError::NotListed),
-        },
-        Number8::Refused(e) => FieldAnswer::Invalid(FieldError::NoNumber(e)),
+    match read::<u8>(field)? {
+        1 => Ok(number(1)),
+        2 => Ok(number(2)),
+        6 => Ok(number(6)),
+        _ => Err(Fault::Invalid(FieldError::NotListed)),
     }
 }
 
-fn reason_field(field: &[u8]) -> FieldAnswer
+fn reason_field(field: &[u8]) -> Result<Field, Fault>
     ensures { (i p : ℕ) → one_of i reason result ≡ read_field i reason p field.now }
 {
-    match read8(field) {
-        Number8::Value(n) => match n {
-            0..=5 => number(n as usize),
-            _ => FieldAnswer::Invalid(FieldError::NotListed),
-        },
-        Number8::Refused(e) => FieldAnswer::Invalid(FieldError::NoNumber(e)),
+    let n = read::<u8>(field)?;
+    if n <= 5 {
+        Ok(number(n.wide()))
+    } else {
+        Err(Fault::Invalid(FieldError::NotListed))
     }
 }
 
 // A field that starts at `start`, by the letter of its kind.
-fn field_of(kind: u8, start: usize, field: &[u8]) -> FieldAnswer
+fn field_of(kind: u8, start: usize, field: &[u8]) -> Result<Field, Fault>
     ensures { (i : ℕ) → one_of i (kind_of kind) result ≡ read_field i (kind_of kind) start field.now }
 {
     match kind {
-        b'b' => byte_field(field),
-        b'w' => word_field(field),
-        b'l' => long_field(field),
+        b'b' => number_field::<u8>(field),
+        b'w' => number_field::<u16>(field),
+        b'l' => number_field::<u32>(field),
         b'i' => ip_type_field(field),
         b't' => bt_type_field(field),
         b'p' => protocol_field(field),
         b'r' => reason_field(field),
-        _ => FieldAnswer::Got(Field {
+        _ => Ok(Field {
             value: start,
             len: field.len(),
         }),
@@ -188,26 +209,19 @@ pub(crate) fn take_fields(numbers: &mut [usize], kinds: Kinds, s: &[u8], w: Fiel
     let mut at = w.at;
     let mut i = 0;
     while i < count {
-        let Next::Field { start, len, rest } = field_at(s, at) else {
+        let Some(next) = field_at(s, at) else {
             let field = counted(i);
             return Stop::Refused(AtPacketError::TypeDecodeParameterMissing { field });
         };
-        match field_of(letters[i], start, part(s, start, len)) {
-            FieldAnswer::Got(field) => {
+        match field_of(letters[i], next.start, part(s, next.start, next.len)) {
+            Ok(field) => {
                 let k = 2 * i;
                 numbers[k] = field.value;
                 numbers[k + 1] = field.len;
             }
-            FieldAnswer::Unsupported => return Stop::Refused(AtPacketError::TypeDecodeUnsupported),
-            FieldAnswer::Invalid(why) => {
-                let field = counted(i);
-                return Stop::Refused(AtPacketError::TypeDecodeParameterDataTypeInvalid {
-                    field,
-                    why,
-                });
-            }
+            Err(fault) => return Stop::Refused(fault.of_field(counted(i))),
         }
-        at = rest.at;
+        at = next.rest.at;
         i += 1;
     }
     Stop::Nowhere

@@ -8,11 +8,11 @@ ghost use Rattle.at.specs.Table.{spelled};
 ghost use Rattle.at.specs.Steps.{Lettered, fields_in, outcome_by, is_unsupported, read_peer};
 
 use crate::field::{Stop, take_fields, taken_for};
-use crate::line::{Framed, frame_line, head_of};
+use crate::line::{frame_line, head_of};
 use crate::table::Entry;
 use crate::w26_event::event_of;
 use crate::w26_table::{bluetooth_kinds, entry, first_rows, last_rows, second_rows, third_rows};
-use crate::{AtPacketError, ConnHandle, PeerHandle, Text};
+use crate::{AtPacketError, ConnHandle, PeerHandle, ReadEvent, Text};
 use text::bytes::part;
 use text::field::Fields;
 use text::put::put;
@@ -141,13 +141,6 @@ pub enum ATEvent {
     },
 }
 
-// `past` is the place just past the event.
-#[derive(Clone, Copy)]
-pub enum EventAnswer {
-    Event { event: ATEvent, past: usize },
-    Refused(AtPacketError),
-}
-
 // The rows of the table, in its order.
 pub(crate) const UUDPC: usize = 0;
 
@@ -248,21 +241,26 @@ fn is_left(row: usize, stop: Stop) -> bool
 }
 
 // What was taken for a row, as an answer; `past` is the place just past the event.
-fn answer(row: usize, numbers: &[usize], stop: Stop, past: usize) -> EventAnswer
+fn answer(
+    row: usize,
+    numbers: &[usize],
+    stop: Stop,
+    past: usize,
+) -> Result<ReadEvent<ATEvent>, AtPacketError>
     requires { (row < length table) × (length numbers.now ≡ 14) }
     ensures { shown result ≡ up_to past (outcome_by table (record { row = row; fields = fields_in numbers.now }) stop) }
 {
     match stop {
-        Stop::Nowhere => EventAnswer::Event {
+        Stop::Nowhere => Ok(ReadEvent {
             event: event_of(taken_for(row, numbers)),
             past,
-        },
-        Stop::Refused(e) => EventAnswer::Refused(e),
+        }),
+        Stop::Refused(e) => Err(e),
     }
 }
 
 // The event of a row, from its fields.
-fn event_by(e: Entry, s: &[u8], w: Fields, past: usize) -> EventAnswer
+fn event_by(e: Entry, s: &[u8], w: Fields, past: usize) -> Result<ReadEvent<ATEvent>, AtPacketError>
     requires { (e.row < length table) × Lettered table e }
     ensures { shown result ≡ up_to past (read_peer e.row (left s.now w)) }
 {
@@ -279,7 +277,7 @@ fn event_by(e: Entry, s: &[u8], w: Fields, past: usize) -> EventAnswer
 }
 
 // The event of the text from `start` to the end of `s`.
-fn event_in(s: &[u8], start: usize, past: usize) -> EventAnswer
+fn event_in(s: &[u8], start: usize, past: usize) -> Result<ReadEvent<ATEvent>, AtPacketError>
     ensures { shown result ≡ up_to past (read_text table start (drop start s.now)) }
 {
     let h = head_of(s, start);
@@ -287,16 +285,14 @@ fn event_in(s: &[u8], start: usize, past: usize) -> EventAnswer
     if e.row < ROWS {
         event_by(e, s, h.fields, past)
     } else {
-        EventAnswer::Refused(AtPacketError::EventUnknown)
+        Err(AtPacketError::EventUnknown)
     }
 }
 
 // The event of the line that starts at `from`, which takes up the rest of the buffer.
-pub fn read(s: &[u8], from: usize) -> EventAnswer
+pub fn read(s: &[u8], from: usize) -> Result<ReadEvent<ATEvent>, AtPacketError>
     ensures { shown result ≡ read_line w26 from (drop from s.now) }
 {
-    match frame_line(s, from) {
-        Framed::Body { start, end } => event_in(part(s, 0, end), start, s.len()),
-        Framed::Refused(e) => EventAnswer::Refused(e),
-    }
+    let body = frame_line(s, from)?;
+    event_in(part(s, 0, body.end), body.start, s.len())
 }

@@ -4,24 +4,24 @@ ghost use Rattle.text.specs.FieldSteps.{left};
 ghost use Rattle.at.specs.Refusal.{good};
 ghost use Rattle.at.specs.Event.{up_to};
 ghost use Rattle.at.specs.Line.{read_line, read_text};
-ghost use Rattle.at.specs.Binary.{read_body, tried, try_rows};
+ghost use Rattle.at.specs.Binary.{read_body, try_rows};
 ghost use Rattle.at.specs.W36.{table, binary_table, rows36, w36, event_of, shown, shown_binary, UESODB as uesodb_row, UESODBF as uesodbf_row};
 ghost use Rattle.at.specs.Table.{spelled};
 ghost use Rattle.at.specs.Parts.{row_no, Apart};
 ghost use Rattle.at.specs.Steps.{event_by, Lettered, read_found};
 
-use crate::binary::{AddressFields, Data, Marked, address_fields, data_at, find_marker, no_number};
+use crate::binary::{address_fields, data_at, find_marker, no_number};
 use crate::field::{Stop, Taken, take_fields, taken_for};
-use crate::line::{Framed, first_line_end, frame_line, head_of};
+use crate::line::{first_line_end, frame_line, head_of};
 use crate::parts::Value::Place;
-use crate::parts::{Parts, bare, byte, four, one, three, two, word};
+use crate::parts::{Parts, Value};
 use crate::table::Entry;
 use crate::w36_table::{binary_rows, entry, first_rows, last_rows};
-use crate::{AtPacketError, SocketId, Text};
+use crate::{AtPacketError, ReadEvent, SocketId, Text};
 use text::bytes::{part, starts_at};
 use text::field::Fields;
-use text::find::{Found, first_byte};
-use text::number::{Number8, read8};
+use text::find::first_byte;
+use text::number::read as read_number;
 use text::put::put;
 
 #[derive(Clone, Copy)]
@@ -67,20 +67,6 @@ pub enum ATEvent {
     StationNetworkDown,
     AccessPointNetworkUp,
     AccessPointNetworkDown,
-}
-
-// `past` is the place just past the event.
-#[derive(Clone, Copy)]
-pub enum EventAnswer {
-    Event { event: ATEvent, past: usize },
-    Refused(AtPacketError),
-}
-
-#[derive(Clone, Copy)]
-pub enum BinaryAnswer {
-    Event { event: ATEvent, past: usize },
-    NotBinary,
-    Refused(AtPacketError),
 }
 
 // The rows of the table, in its order: those of text, then those of binary.
@@ -181,52 +167,65 @@ fn event_of(t: Taken) -> ATEvent
 }
 
 // The row of an event and its values, of a binary event the data last.
-pub fn parts(e: ATEvent) -> Parts
-    ensures { Apart rows36 (event_of e) result }
-{
-    match e {
-        ATEvent::SocketConnected { socket_id } => one(UESOC, byte(socket_id.0)),
-        ATEvent::SocketClosed { socket_id } => one(UESOCL, byte(socket_id.0)),
-        ATEvent::SocketDataAvailable { socket_id, length } => {
-            two(UESODA, byte(socket_id.0), word(length))
+impl From<ATEvent> for Parts {
+    ghost from_gives = { λ e p. Apart rows36 (event_of e) p };
+
+    fn from(e: ATEvent) -> Self {
+        match e {
+            ATEvent::SocketConnected { socket_id } => Self::new(UESOC, [Value::from(socket_id.0)]),
+            ATEvent::SocketClosed { socket_id } => Self::new(UESOCL, [Value::from(socket_id.0)]),
+            ATEvent::SocketDataAvailable { socket_id, length } => {
+                Self::new(UESODA, [Value::from(socket_id.0), Value::from(length)])
+            }
+            ATEvent::WifiLinkUp {
+                wlan_handle,
+                bssid,
+                channel,
+            } => Self::new(
+                UEWLU,
+                [Value::from(wlan_handle), Place(bssid), Value::from(channel)],
+            ),
+            ATEvent::WifiLinkDown {
+                wlan_handle,
+                reason,
+            } => Self::new(UEWLD, [Value::from(wlan_handle), Value::from(reason)]),
+            ATEvent::WifiAccessPointStationAssociated { mac_addr } => Self::new(
+                UEWAPSA,
+                [Place(mac_addr)],
+            ),
+            ATEvent::WifiAccessPointStationDisassociated { mac_addr } => Self::new(
+                UEWAPSDA,
+                [Place(mac_addr)],
+            ),
+            ATEvent::WifiAccessPointUp => Self::new(UEWAPU, []),
+            ATEvent::WifiAccessPointDown => Self::new(UEWAPD, []),
+            ATEvent::StationNetworkUp => Self::new(UEWSNU, []),
+            ATEvent::StationNetworkDown => Self::new(UEWSND, []),
+            ATEvent::AccessPointNetworkUp => Self::new(UEWAPNU, []),
+            ATEvent::AccessPointNetworkDown => Self::new(UEWAPND, []),
+            ATEvent::SocketDataBinary { socket_id, data } => {
+                Self::new(UESODB, [Value::from(socket_id.0), Place(data)])
+            }
+            ATEvent::SocketDataBinaryFrom {
+                socket_id,
+                remote_ip,
+                remote_port,
+                data,
+            } => Self::new(
+                UESODBF,
+                [
+                    Value::from(socket_id.0),
+                    Place(remote_ip),
+                    Value::from(remote_port),
+                    Place(data),
+                ],
+            ),
         }
-        ATEvent::WifiLinkUp {
-            wlan_handle,
-            bssid,
-            channel,
-        } => three(UEWLU, word(wlan_handle), Place(bssid), word(channel)),
-        ATEvent::WifiLinkDown {
-            wlan_handle,
-            reason,
-        } => two(UEWLD, word(wlan_handle), word(reason)),
-        ATEvent::WifiAccessPointStationAssociated { mac_addr } => one(UEWAPSA, Place(mac_addr)),
-        ATEvent::WifiAccessPointStationDisassociated { mac_addr } => one(UEWAPSDA, Place(mac_addr)),
-        ATEvent::WifiAccessPointUp => bare(UEWAPU),
-        ATEvent::WifiAccessPointDown => bare(UEWAPD),
-        ATEvent::StationNetworkUp => bare(UEWSNU),
-        ATEvent::StationNetworkDown => bare(UEWSND),
-        ATEvent::AccessPointNetworkUp => bare(UEWAPNU),
-        ATEvent::AccessPointNetworkDown => bare(UEWAPND),
-        ATEvent::SocketDataBinary { socket_id, data } => {
-            two(UESODB, byte(socket_id.0), Place(data))
-        }
-        ATEvent::SocketDataBinaryFrom {
-            socket_id,
-            remote_ip,
-            remote_port,
-            data,
-        } => four(
-            UESODBF,
-            byte(socket_id.0),
-            Place(remote_ip),
-            word(remote_port),
-            Place(data),
-        ),
     }
 }
 
 // The event of a row, from its fields; `past` is the place just past it.
-fn event_by(e: Entry, s: &[u8], w: Fields, past: usize) -> EventAnswer
+fn event_by(e: Entry, s: &[u8], w: Fields, past: usize) -> Result<ReadEvent<ATEvent>, AtPacketError>
     requires { (e.row < length table) × Lettered table e }
     ensures { shown result ≡ up_to past (read_found (row_no table e.row) (left s.now w)) }
 {
@@ -234,16 +233,16 @@ fn event_by(e: Entry, s: &[u8], w: Fields, past: usize) -> EventAnswer
     let kinds = e.kinds;
     let stop = take_fields(&mut numbers, kinds, s, w);
     match stop {
-        Stop::Nowhere => EventAnswer::Event {
+        Stop::Nowhere => Ok(ReadEvent {
             event: event_of(taken_for(e.row, &numbers)),
             past,
-        },
-        Stop::Refused(e) => EventAnswer::Refused(e),
+        }),
+        Stop::Refused(e) => Err(e),
     }
 }
 
 // The event of the text from `start` to the end of `s`.
-fn event_in(s: &[u8], start: usize, past: usize) -> EventAnswer
+fn event_in(s: &[u8], start: usize, past: usize) -> Result<ReadEvent<ATEvent>, AtPacketError>
     ensures { shown result ≡ up_to past (read_text table start (drop start s.now)) }
 {
     let h = head_of(s, start);
@@ -251,81 +250,68 @@ fn event_in(s: &[u8], start: usize, past: usize) -> EventAnswer
     if e.row < TEXT {
         event_by(e, s, h.fields, past)
     } else {
-        EventAnswer::Refused(AtPacketError::EventUnknown)
+        Err(AtPacketError::EventUnknown)
     }
 }
 
 // The text event of the line that starts at `from`: it ends with the next CR LF.
-pub fn read(s: &[u8], from: usize) -> EventAnswer
+pub fn read(s: &[u8], from: usize) -> Result<ReadEvent<ATEvent>, AtPacketError>
     ensures { shown result ≡ read_line w36 from (drop from s.now) }
 {
-    match frame_line(s, from) {
-        Framed::Body { start, end: _ } => {
-            let end = first_line_end(s, start);
-            event_in(part(s, 0, end), start, end + 2)
-        }
-        Framed::Refused(e) => EventAnswer::Refused(e),
-    }
+    let body = frame_line(s, from)?;
+    let end = first_line_end(s, body.start);
+    event_in(part(s, 0, end), body.start, end + 2)
 }
 
 // The event +UESODB whose one field starts at `start`: the whole text up to the marker, which no comma cuts. A number is UTF-8 as it stands.
-fn socket_data(s: &[u8], start: usize) -> BinaryAnswer
-    ensures { shown_binary result ≡ tried (read_body uesodb_row start (drop start s.now)) }
+fn socket_data(s: &[u8], start: usize) -> Result<ReadEvent<ATEvent>, AtPacketError>
+    ensures { shown result ≡ read_body uesodb_row start (drop start s.now) }
 {
-    match first_byte(s, start, 1) {
-        Found::Nothing => BinaryAnswer::Refused(AtPacketError::FramingDecodeFailed),
-        Found::At(marker) => match read8(part(s, start, marker - start)) {
-            Number8::Refused(e) => BinaryAnswer::Refused(no_number(
-                part(s, start, marker - start),
-                e,
-            )),
-            Number8::Value(n) => match data_at(s, marker + 1) {
-                Data::Refused(e) => BinaryAnswer::Refused(e),
-                Data::Got(data) => BinaryAnswer::Event {
-                    event: ATEvent::SocketDataBinary {
-                        socket_id: SocketId(n),
-                        data,
-                    },
-                    past: data.start + data.len,
-                },
-            },
+    let Some(marker) = first_byte(s, start, 1) else {
+        return Err(AtPacketError::FramingDecodeFailed);
+    };
+    let field = part(s, start, marker - start);
+    let socket = match read_number::<u8>(field) {
+        Ok(n) => n,
+        Err(e) => return Err(no_number(field, e)),
+    };
+    let data = data_at(s, marker + 1)?;
+    Ok(ReadEvent {
+        event: ATEvent::SocketDataBinary {
+            socket_id: SocketId(socket),
+            data,
         },
-    }
+        past: data.start + data.len,
+    })
 }
 
 // The event +UESODBF whose fields start at `start`.
-fn socket_data_from(s: &[u8], start: usize) -> BinaryAnswer
-    ensures { shown_binary result ≡ tried (read_body uesodbf_row start (drop start s.now)) }
+fn socket_data_from(s: &[u8], start: usize) -> Result<ReadEvent<ATEvent>, AtPacketError>
+    ensures { shown result ≡ read_body uesodbf_row start (drop start s.now) }
 {
-    match find_marker(s, start) {
-        Marked::Refused(e) => BinaryAnswer::Refused(e),
-        Marked::After(len) => match address_fields(part(s, 0, start + len), start) {
-            AddressFields::Refused(e) => BinaryAnswer::Refused(e),
-            AddressFields::Got(n, remote_ip, remote_port) => match data_at(s, start + len + 1) {
-                Data::Refused(e) => BinaryAnswer::Refused(e),
-                Data::Got(data) => BinaryAnswer::Event {
-                    event: ATEvent::SocketDataBinaryFrom {
-                        socket_id: SocketId(n),
-                        remote_ip,
-                        remote_port,
-                        data,
-                    },
-                    past: data.start + data.len,
-                },
-            },
+    let len = find_marker(s, start)?;
+    let address = address_fields(part(s, 0, start + len), start)?;
+    let data = data_at(s, start + len + 1)?;
+    Ok(ReadEvent {
+        event: ATEvent::SocketDataBinaryFrom {
+            socket_id: SocketId(address.socket),
+            remote_ip: address.ip,
+            remote_port: address.port,
+            data,
         },
-    }
+        past: data.start + data.len,
+    })
 }
 
-// The binary event that starts at `from`.
-pub fn try_parse_binary(s: &[u8], from: usize) -> BinaryAnswer
+// The binary event that starts at `from`; none where what starts there is not binary.
+pub fn try_parse_binary(s: &[u8], from: usize) -> Result<Option<ReadEvent<ATEvent>>, AtPacketError>
     ensures { shown_binary result ≡ try_rows binary_table from (drop from s.now) }
 {
     if starts_at(s, from, b"\r\n+UESODB:") {
-        return socket_data(s, from + 10);
+        return Ok(Some(socket_data(s, from + 10)?));
     }
     if starts_at(s, from, b"\r\n+UESODBF:") {
-        return socket_data_from(s, from + 11);
+        return Ok(Some(socket_data_from(s, from + 11)?));
     }
-    BinaryAnswer::NotBinary
+    Ok(None)
 }

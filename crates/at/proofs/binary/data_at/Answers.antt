@@ -21,9 +21,9 @@ overflow_add-len c = omega (arith, c.shared_slice_known-2-1.given c.args.at, c.s
 pub returns-then-len-left : goal.returns-then-len-left
 returns-then-len-left c =
     let a = c.args in
-    rw (data_read a.s.now a.at (omega arith) c.wide.ensures c.wide-2.ensures, le-leb _ _ c.if-len-left.true)
+    rw (data_read a.s.now a.at (omega arith) c.from.ensures c.from-2.ensures, le-leb _ _ c.if-len-left.true)
 
 pub returns-else-len-left : goal.returns-else-len-left
 returns-else-len-left c =
     let a = c.args in
-    rw (data_read a.s.now a.at (omega arith) c.wide.ensures c.wide-2.ensures, lt-leb _ _ c.if-len-left.false)
+    rw (data_read a.s.now a.at (omega arith) c.from.ensures c.from-2.ensures, lt-leb _ _ c.if-len-left.false)

@@ -12,15 +12,15 @@ returns-in_default c i =
 
 pub returns-in-98 : goal.returns-in-98
 unfolding kind_of
-returns-in-98 c = λ i. rw c.in-98.is (c.byte_field.ensures i _)
+returns-in-98 c = λ i. rw c.in-98.is (c.number_field.ensures i _)
 
 pub returns-in-119 : goal.returns-in-119
 unfolding kind_of
-returns-in-119 c = λ i. rw c.in-119.is (c.word_field.ensures i _)
+returns-in-119 c = λ i. rw c.in-119.is (c.number_field-in-119.ensures i _)
 
 pub returns-in-108 : goal.returns-in-108
 unfolding kind_of
-returns-in-108 c = λ i. rw c.in-108.is (c.long_field.ensures i _)
+returns-in-108 c = λ i. rw c.in-108.is (c.number_field-in-108.ensures i _)
 
 pub returns-in-105 : goal.returns-in-105
 unfolding kind_of

@@ -7,14 +7,14 @@ use lib.ListN.{length, get_or, take, length-set}
 use lib.Seq.{get_or-take, length-take-le}
 use Rattle.text.specs.Bytes.{part}
 use Rattle.text.specs.Field.{next_field}
-use Rattle.text.specs.declared.field.Next.TheVariants as next
-use Rattle.at.specs.Refusal.{no, missing, invalid, refused}
+use Rattle.std.specs.Prelude.{Some}
+use Rattle.at.specs.Refusal.{missing, refused}
 use Rattle.at.specs.Event.{read_field}
-use Rattle.at.specs.Steps.{kind_of, one_of, values_of, without_rest}
+use Rattle.at.specs.Steps.{kind_of, fault_of, one_of, values_of, without_rest}
 use Rattle.at.proofs.TakeLaws.{ahead_refused, take-missing, take-refused, one_more, all_taken, field_stored, seven-fields}
 use borrow.Author.Rules.{rules}
 use Rattle.at.proofs.field.take_fields.Goals as goal
-use Rattle.at.proofs.field.take_fields.Goals.{After-field_of, In-Field, In-loop-i}
+use Rattle.at.proofs.field.take_fields.Goals.{After-field_of, In-Some, In-loop-i}
 
 pub loop-i-init : goal.loop-i-init
 unfolding values_of
@@ -34,8 +34,8 @@ more c = omega (arith, all c, c.loop-i-test.true)
 room : (c : In-loop-i) → 2 * c.loop-i.i + 1 < length c.loop-i.numbers
 room c = let held = c.requires.0 in omega (arith, held.few, c.loop-i-test.true, c.loop-i.invariant.1.0)
 
-step : (c : In-Field) → next_field c.args.s.now (record { at = c.loop-i.at }) ≡ next.Field c.in-Field.start c.in-Field.len c.in-Field.rest
-step c = sym c.field_at.ensures ∙ c.in-Field.is
+step : (c : In-Some) → next_field c.args.s.now (record { at = c.loop-i.at }) ≡ Some c.in-Some.next
+step c = sym c.field_at.ensures ∙ c.in-Some.is
 
 pub returns-in_default : goal.returns-in_default
 returns-in_default c =
@@ -45,19 +45,15 @@ returns-in_default c =
 -- the field that was found is read by its kind
 there : (c : After-field_of)
     → let k = kind_of (get_or (take c.args.kinds.count c.args.kinds.letters) c.loop-i.i 0) in
-    (i : ℕ) → one_of i k c.field_of.result ≡ read_field i k c.in-Field.start (part c.args.s.now c.in-Field.start c.in-Field.len)
+    (i : ℕ) → one_of i k c.field_of.result ≡ read_field i k c.in-Some.next.start (part c.args.s.now c.in-Some.next.start c.in-Some.next.len)
 there c =
     let letter = get_or-take c.args.kinds.count c.args.kinds.letters c.loop-i.i 0 c.loop-i-test.true in
     λ i. rw letter (rw c.part.ensures at (c.field_of.ensures i))
 
-pub returns-in-Unsupported : goal.returns-in-Unsupported
-returns-in-Unsupported c =
-    sym (ap without_rest {y = refused (no 13)} (c.loop-i.invariant.1.1 ∙ rw (take-refused (Letters (goal.at.returns-in-Unsupported c).In-loop-i) _ _ _ (more (goal.at.returns-in-Unsupported c).In-loop-i) _ _ _ (step (goal.at.returns-in-Unsupported c).In-Field) _ (sym (rw c.in-Unsupported.is at (there (goal.at.returns-in-Unsupported c).After-field_of (suc c.loop-i.i)))), ahead_refused)))
-
-pub returns-in-Invalid : goal.returns-in-Invalid
-returns-in-Invalid c =
-    rw c.counted-field-in-Invalid.ensures
-    (sym (ap without_rest {y = refused (invalid (c.loop-i.i + 1) c.in-Invalid.why)} (c.loop-i.invariant.1.1 ∙ rw (take-refused (Letters (goal.at.returns-in-Invalid c).In-loop-i) _ _ _ (more (goal.at.returns-in-Invalid c).In-loop-i) _ _ _ (step (goal.at.returns-in-Invalid c).In-Field) _ (sym (rw c.in-Invalid.is at (there (goal.at.returns-in-Invalid c).After-field_of (suc c.loop-i.i)))), ahead_refused, add-one))))
+pub returns-in-Err : goal.returns-in-Err
+returns-in-Err c =
+    rw (c.of_field.ensures, c.counted.ensures)
+    (sym (ap without_rest {y = refused (fault_of (c.loop-i.i + 1) c.in-Err.fault)} (c.loop-i.invariant.1.1 ∙ rw (take-refused (Letters (goal.at.returns-in-Err c).In-loop-i) _ _ _ (more (goal.at.returns-in-Err c).In-loop-i) _ (step (goal.at.returns-in-Err c).In-Some) _ (sym (rw c.in-Err.is at (there (goal.at.returns-in-Err c).After-field_of (suc c.loop-i.i)))), ahead_refused, add-one))))
 
 pub loop-i-preserved : goal.loop-i-preserved
 loop-i-preserved c =
@@ -67,8 +63,8 @@ loop-i-preserved c =
       search rules,
       (
         simp length-set inv.1.0,
-        rw (field_stored c.loop-i.numbers c.loop-i.i c.in-Got.field.value c.in-Got.field.len (room (goal.at.loop-i-preserved c).In-loop-i) few)
-            (inv.1.1 ∙ one_more (Letters (goal.at.loop-i-preserved c).In-loop-i) _ _ _ (more (goal.at.loop-i-preserved c).In-loop-i) _ _ _ (step (goal.at.loop-i-preserved c).In-Field) _ c.in-Got.field (omega (arith, few, seven-fields c.loop-i.numbers)) (sym (rw c.in-Got.is at (there (goal.at.loop-i-preserved c).After-field_of (suc c.loop-i.i))))),
+        rw (field_stored c.loop-i.numbers c.loop-i.i c.in-Ok.field.value c.in-Ok.field.len (room (goal.at.loop-i-preserved c).In-loop-i) few)
+            (inv.1.1 ∙ one_more (Letters (goal.at.loop-i-preserved c).In-loop-i) _ _ _ (more (goal.at.loop-i-preserved c).In-loop-i) _ (step (goal.at.loop-i-preserved c).In-Some) _ c.in-Ok.field (omega (arith, few, seven-fields c.loop-i.numbers)) (sym (rw c.in-Ok.is at (there (goal.at.loop-i-preserved c).After-field_of (suc c.loop-i.i))))),
       ),
     )
 
@@ -89,5 +85,5 @@ bounds-numbers-k c = omega (arith, room (goal.at.bounds-numbers-k c).In-loop-i)
 pub overflow_add-numbers : goal.overflow_add-numbers
 overflow_add-numbers c = omega (arith, room (goal.at.overflow_add-numbers c).In-loop-i)
 
-pub bounds-numbers-k-in-Got : goal.bounds-numbers-k-in-Got
-bounds-numbers-k-in-Got c = simp length-set (room (goal.at.bounds-numbers-k-in-Got c).In-loop-i)
+pub bounds-numbers-k-in-Ok : goal.bounds-numbers-k-in-Ok
+bounds-numbers-k-in-Ok c = simp length-set (room (goal.at.bounds-numbers-k-in-Ok c).In-loop-i)

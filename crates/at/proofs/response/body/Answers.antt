@@ -21,7 +21,7 @@ returns-in_default c = let e = c.part-t.ensures ∙ part-rest _ _ in
     rw (← e, ← c.same.ensures, c.if-same.false, ← c.same-2.ensures, c.if-same-2.false, ← c.last_crlf.ensures, c.in_default.is)
 
 pub overflow_add-i : goal.overflow_add-i
-overflow_add-i c = omega (arith, last_fits _ _ (sym c.last_crlf.ensures ∙ c.in-At.is))
+overflow_add-i c = omega (arith, last_fits _ _ (sym c.last_crlf.ensures ∙ c.in-Some.is))
 
 pub returns-then-same-3 : goal.returns-then-same-3
 unfolding read_body
@@ -34,7 +34,7 @@ returns-then-same-3 c = let e = c.part-t.ensures ∙ part-rest _ _ in
       ← c.same-2.ensures,
       c.if-same-2.false,
       ← c.last_crlf.ensures,
-      c.in-At.is,
+      c.in-Some.is,
       ← f,
       ← c.same-3.ensures,
       c.if-same-3.true,
@@ -51,7 +51,7 @@ returns-else-same-3 c = let e = c.part-t.ensures ∙ part-rest _ _ in
       ← c.same-2.ensures,
       c.if-same-2.false,
       ← c.last_crlf.ensures,
-      c.in-At.is,
+      c.in-Some.is,
       ← f,
       ← c.same-3.ensures,
       c.if-same-3.false,

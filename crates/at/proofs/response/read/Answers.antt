@@ -22,18 +22,18 @@ pub returns-in_default : goal.returns-in_default
 returns-in_default c = sym (response_unended _ _ (valid (goal.at.returns-in_default c).Else-not-is_utf8) (sym c.first_crlf.ensures ∙ c.in_default.is))
 
 pub overflow_sub-n : goal.overflow_sub-n
-overflow_sub-n c = let r = from_at _ _ _ _ (sym c.first_crlf.ensures ∙ c.in-At.is) in omega arith
+overflow_sub-n c = let r = from_at _ _ _ _ (sym c.first_crlf.ensures ∙ c.in-Some.is) in omega arith
 
 pub returns-then-n-i-lt4 : goal.returns-then-n-i-lt4
-returns-then-n-i-lt4 c = sym (response-short _ _ (valid (goal.at.returns-then-n-i-lt4 c).Else-not-is_utf8) _ (sym c.first_crlf.ensures ∙ c.in-At.is) c.if-n-i-lt4.true)
+returns-then-n-i-lt4 c = sym (response-short _ _ (valid (goal.at.returns-then-n-i-lt4 c).Else-not-is_utf8) _ (sym c.first_crlf.ensures ∙ c.in-Some.is) c.if-n-i-lt4.true)
 
 pub returns-then-starts_at : goal.returns-then-starts_at
 unfolding part
-returns-then-starts_at c = let e = sym c.first_crlf.ensures ∙ c.in-At.is in
+returns-then-starts_at c = let e = sym c.first_crlf.ensures ∙ c.in-Some.is in
     let f = sym c.starts_at.ensures ∙ c.if-starts_at.true in
     let w = response-whole _ _ (valid (goal.at.returns-then-starts_at c).Else-not-is_utf8) _ e c.if-n-i-lt4.false f in
     ap good c.body.ensures ∙ rw c.part.ensures (sym w)
 
 pub returns-else-starts_at : goal.returns-else-starts_at
-returns-else-starts_at c = let e = sym c.first_crlf.ensures ∙ c.in-At.is in
+returns-else-starts_at c = let e = sym c.first_crlf.ensures ∙ c.in-Some.is in
     sym (response_open _ _ (valid (goal.at.returns-else-starts_at c).Else-not-is_utf8) _ e c.if-n-i-lt4.false (sym c.starts_at.ensures ∙ c.if-starts_at.false))

@@ -1,5 +1,0 @@
-use Rattle.at.proofs.PartsLaws.{part_of_value}
-use Rattle.at.proofs.parts.one.Goals as goal
-
-pub returns : goal.returns
-returns c = rw (c.up_to_three.ensures, part_of_value)
