@@ -53,10 +53,10 @@ one-write = ((λ κs a x y s t p q. shown_injective x y (p.answers ∙ sym q.ans
 
 wrote-bytes : (n : ℕ) (w : OrRefused (List ℕ)) → good n ≡ answer_to w → (f : List ℕ) × (w ≡ good f) × (n ≡ length f)
 wrote-bytes n (good f) e = (f, refl, cc)
-wrote-bytes n (refused m) e = let z : ◌≡◌ {A = ℕ} 0 1 = cc in absurd (omega arith)
+wrote-bytes n (refused m) e = absurd cc
 
 refused-bytes : (m : Refusal) (b : List ℕ) (w : OrRefused (List ℕ)) → refused m ≡ answer_to w → after b w ≡ b
-refused-bytes m b (good f) e = let z : ◌≡◌ {A = ℕ} 0 1 = cc in absurd (omega arith)
+refused-bytes m b (good f) e = absurd cc
 refused-bytes m b (refused n) e = refl
 
 first_byte : (id : ℕ) (t b : List ℕ) → get_or (frame id t ++ b) 0 0 ≡ 0xAA
@@ -130,5 +130,4 @@ module _ (κs : Lfts 2) (a : Dens κs write.Kinds.ps) (e : AtExit (ended_of 2 wr
   resend_is-written x r h p =
       let k = as_command (length buf) a.1.0.now a.1.1.0 (ap (command_of a.1.0.now) r) in
       let w = k ∙ takes (length buf) (good (command 0x56 [])) h ∙ within (length buf) 0x56 [] (omega arith) (omega arith) in
-      let z : ◌≡◌ {A = ℕ} 0 1 = cc p.answers in
-      omega arith
+      cc p.answers

@@ -2,22 +2,24 @@
 use mathlib.Core.Path.{◌≡◌, refl, sym, ap, ◌∙◌}
 use mathlib.Core.List.{List, [], ◌∷◌, ◌++◌}
 use mathlib.Core.Bool.{Bool, true, false, cond, ◌&&◌}
-use Prim.Native.Nat.{ℕ, ◌+◌, ◌/◌, ◌%◌, ◌≤◌, ◌<◌}
+use Prim.Native.Nat.{ℕ, ◌+◌, ◌-◌, min, ◌/◌, ◌%◌, ◌≤◌, ◌<◌}
 use native.Mathlib.Omega.{arith}
 use native.Mathlib.Nat.{zero-add, div-eq_of_lt, mod-eq_of_lt}
 use lib.Dec.{leb, ltb}
 use lib.ListN.{length, drop, length-append, length-drop}
 use lib.Seq.{length-take-le}
-use borrow.Author.Tests.{le-leb, lt-leb, leb-true, le-ltb, lt-ltb}
+use borrow.Author.Tests.{ltb-true, ltb-false, le-leb, lt-leb, leb-true, le-ltb, lt-ltb}
 use Rattle.text.specs.Bytes.{part}
 use Rattle.text.specs.Utf8.{utf8}
 use Rattle.text.specs.Put.{after as put}
 use Rattle.text.proofs.PutAppend.{after_append, after_front}
 use Rattle.at.specs.Written.{answer_to, after}
 use Rattle.at.specs.Refusal.{OrRefused, good, refused, no}
-use Rattle.edm.specs.Command.{frame, Command, command, command_of, in_source, request_of, to_send, to_write, fitted, shown, Writes}
+use Rattle.edm.specs.Command.{frame, Command, command, command_of, in_source, request_of, room_of, to_send, to_write, fitted, shown, Writes}
 use Rattle.edm.specs.declared.EdmPacketError.{EdmPacketError}
-use Rattle.std.specs.Prelude.{Result, Err}
+use Rattle.std.specs.Prelude.{Result, Ok, Err}
+use Rattle.std.specs.Result.{IsErrAnd}
+use Rattle.std.proofs.lemmas.Result.{err_from_is_err_and}
 use Rattle.edm.specs.declared.EdmPacket.{EdmPacket}
 use Rattle.edm.specs.declared.EdmPacketError.TheVariants as error
 
@@ -105,6 +107,30 @@ module _ (room : ℕ) (k : OrRefused Command) where
   unfolding to_send
   takes_none h = rw (lt-ltb room 6 h)
 
+-- a source that lacks a place
+pub refused_place : (b : List ℕ) (k : OrRefused Command) (r : Result ℕ EdmPacketError) (e : EdmPacketError) → 6 ≤ length b → k ≡ refused (no 10)
+    → e ≡ error.PacketEncodePayloadSizeInvalid → IsErrAnd r (λ y. y ≡ e) → Writes b (to_send (length b) k) r b
+refused_place b k r e h q z i = let d = err_from_is_err_and r i in rw (d.1, d.2, z) (refuses b 10 (takes (length b) k h ∙ rw q) refl)
+
+-- what the room of a buffer says of its length
+pub refused_short : (b : List ℕ) (k : OrRefused Command) (x r : Result ℕ EdmPacketError) (e : EdmPacketError) → x ≡ room_of (length b) → x ≡ Err e
+    → IsErrAnd r (λ y. y ≡ e) → Writes b (to_send (length b) k) r b
+refused_short b k x r e p q i = go (ltb (length b) 6) refl
+  where
+    d : (y : EdmPacketError) × (r ≡ Err y) × (y ≡ e)
+    d = err_from_is_err_and r i
+
+    go : (l : Bool) → ltb (length b) 6 ≡ l → Writes b (to_send (length b) k) r b
+    go true h = let y : Err error.PacketDecodeTargetMemorySizeInvalid ≡ Err e = sym (p ∙ rw h) ∙ q in rw (d.1, d.2, ← y) (refuses b 2 (takes_none (length b) k (ltb-true (length b) 6 h)) refl)
+    go false h = let y : Ok (min (length b - 6) 4093) ≡ Err e = sym (p ∙ rw h) ∙ q in absurd cc
+
+pub roomy : (b : List ℕ) (x : Result ℕ EdmPacketError) (n : ℕ) → x ≡ room_of (length b) → x ≡ Ok n → (6 ≤ length b) × (n ≡ min (length b - 6) 4093)
+roomy b x n p q = go (ltb (length b) 6) refl
+  where
+    go : (l : Bool) → ltb (length b) 6 ≡ l → (6 ≤ length b) × (n ≡ min (length b - 6) 4093)
+    go true h = let y : Err error.PacketDecodeTargetMemorySizeInvalid ≡ Ok n = sym (p ∙ rw h) ∙ q in absurd cc
+    go false h = let y : Ok (min (length b - 6) 4093) ≡ Ok n = sym (p ∙ rw h) ∙ q in (ltb-false (length b) 6 h, cc)
+
 -- so where the command is fitted into such a buffer, it is sent
 pub sends : (b : List ℕ) (k : OrRefused Command) {r : Result ℕ EdmPacketError} {e : List ℕ} → 6 ≤ length b → Writes b (fitted (length b) k) r e → Writes b (to_send (length b) k) r e
 sends b k h w = rw (takes (length b) k h) w
@@ -135,13 +161,13 @@ framed room src p f e = go (ltb room 6) (command_of src p) e
         → cond (l && m) (good (frame id t)) (refused (no 10)) ≡ good f → Framed room (good (command id t)) f
     fits id t true true l m q =
         record { id = id; payload = t; commands = refl; frames = cc; short = leb-true (length t) 4093 l; roomy = leb-true (length t + 6) room m }
-    fits id t true false l m q = let z : ◌≡◌ {A = ℕ} 0 1 = cc in absurd (omega arith)
-    fits id t false m l n q = let z : ◌≡◌ {A = ℕ} 0 1 = cc in absurd (omega arith)
+    fits id t true false l m q = absurd cc
+    fits id t false m l n q = absurd cc
 
     go : (s : Bool) (k : OrRefused Command) → cond s (refused (no 2)) (fitted room k) ≡ good f → Framed room k f
-    go true k q = let z : ◌≡◌ {A = ℕ} 0 1 = cc in absurd (omega arith)
+    go true k q = absurd cc
     go false (good (command id t)) q = fits id t (leb (length t) 4093) (leb (length t + 6) room) refl refl q
-    go false (refused n) q = let z : ◌≡◌ {A = ℕ} 0 1 = cc in absurd (omega arith)
+    go false (refused n) q = absurd cc
 
 -- a command that is made of a place in the source has that place
 pub in_source_lem : (src : List ℕ) (start len : ℕ) (make : List ℕ → OrRefused Command) (id : ℕ) (t : List ℕ) → in_source src start len make ≡ good (command id t)
@@ -151,7 +177,7 @@ in_source_lem src start len make id t e = go (leb (start + len) (length src)) re
     go : (l : Bool) → leb (start + len) (length src) ≡ l → cond l (make (part src start len)) (refused (no 10)) ≡ good (command id t)
         → (start + len ≤ length src) × (make (part src start len) ≡ good (command id t))
     go true h q = (leb-true (start + len) (length src) h, q)
-    go false h q = let z : ◌≡◌ {A = ℕ} 0 1 = cc in absurd (omega arith)
+    go false h q = absurd cc
 
 -- a request is UTF-8
 pub is_request : (u : List ℕ) (id : ℕ) (t : List ℕ) → request_of u ≡ good (command id t) → (utf8 u ≡ true) × (id ≡ 0x44) × (t ≡ u ++ 13 ∷ [])
@@ -159,7 +185,7 @@ is_request u id t e = go (utf8 u) refl e
   where
     go : (v : Bool) → utf8 u ≡ v → cond v (good (command 0x44 (u ++ 13 ∷ []))) (refused (no 8)) ≡ good (command id t) → (utf8 u ≡ true) × (id ≡ 0x44) × (t ≡ u ++ 13 ∷ [])
     go true h q = (h, cc, cc)
-    go false h q = let z : ◌≡◌ {A = ℕ} 0 1 = cc in absurd (omega arith)
+    go false h q = absurd cc
 
 -- a part within the source is as long as it says
 pub part_length : (s : List ℕ) (start len : ℕ) → start + len ≤ length s → length (part s start len) ≡ len

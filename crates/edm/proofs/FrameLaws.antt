@@ -15,9 +15,9 @@ use Rattle.edm.specs.Frame.{delimited, length_field, payload, read_frame}
 -- a packet comes by the tests that refuse with 2 and 3
 accepted : (d l m : Bool) (o : OrRefused Packet) (p : Packet) → cond d (cond l (refused (no 2)) (cond m o (refused (no 3)))) (refused (no 1)) ≡ good p → (l ≡ false) × (m ≡ true)
 accepted true false true o p e = (refl, refl)
-accepted true false false o p e = let z : ◌≡◌ {A = ℕ} 0 1 = cc in absurd (omega arith)
-accepted true true m o p e = let z : ◌≡◌ {A = ℕ} 0 1 = cc in absurd (omega arith)
-accepted false l m o p e = let z : ◌≡◌ {A = ℕ} 0 1 = cc in absurd (omega arith)
+accepted true false false o p e = absurd cc
+accepted true true m o p e = absurd cc
+accepted false l m o p e = absurd cc
 
 module _ (s : List ℕ) where
   -- the payload is the frame without 5 bytes before it and 1 after it

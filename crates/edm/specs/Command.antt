@@ -1,5 +1,5 @@
 -- Writing a command packet: the frame's bytes, the answer, and every byte of the buffer afterwards.
-use Rattle.std.specs.Prelude.{◌≡◌, ℕ, ◌+◌, ◌/◌, ◌%◌, List, [], ◌∷◌, ◌++◌, cond, ◌&&◌, leb, ltb, length, Result, Ok, Err}
+use Rattle.std.specs.Prelude.{◌≡◌, ℕ, ◌+◌, ◌-◌, ◌/◌, ◌%◌, min, List, [], ◌∷◌, ◌++◌, cond, ◌&&◌, leb, ltb, length, Result, Ok, Err}
 use Rattle.text.specs.Bytes.{part}
 use Rattle.text.specs.Utf8.{utf8}
 use Rattle.at.specs.Refusal.{OrRefused, good, refused, no}
@@ -8,6 +8,7 @@ use Rattle.edm.specs.Refusal.{refusal_of}
 use Rattle.edm.specs.declared.EdmPacket.{EdmPacket}
 use Rattle.edm.specs.declared.EdmPacket.TheVariants as is
 use Rattle.edm.specs.declared.EdmPacketError.{EdmPacketError}
+use Rattle.edm.specs.declared.EdmPacketError.TheVariants as error
 
 -- a number of 16 bits, high first
 abbrev pub two_bytes : ℕ → List ℕ
@@ -40,6 +41,10 @@ command_of src (is.DataEvent c d) = refused (no 9)
 command_of src (is.ATResponse r) = refused (no 9)
 command_of src (is.ATEvent e) = refused (no 9)
 command_of src is.StartEvent = refused (no 9)
+
+-- how many bytes of payload a buffer has room for, and at most 4,093; a buffer under 6 bytes is 2
+abbrev pub room_of : ℕ → Result ℕ EdmPacketError
+room_of room = cond (ltb room 6) (Err error.PacketDecodeTargetMemorySizeInvalid) (Ok (min (room - 6) 4093))
 
 -- the bytes to write: a payload over 4,093 bytes, or over the buffer's length less 6, is 10
 abbrev pub fitted : ℕ → OrRefused Command → OrRefused (List ℕ)

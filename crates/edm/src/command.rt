@@ -1,12 +1,36 @@
 // A command packet, written as an EDM frame.
-ghost use Rattle.std.specs.Prelude.{◌≡◌, [], ◌∷◌, ◌++◌, ◌+◌, ◌≤◌, length};
-ghost use Rattle.at.specs.Refusal.{no, good, refused};
-ghost use Rattle.edm.specs.Command.{command, request_of, fitted, to_send, to_write, shown, Writes};
+ghost use Rattle.std.specs.Prelude.{◌≡◌, [], ◌∷◌, ◌++◌, ◌+◌, ◌≤◌, length, leb, true, false, MatchResult};
+ghost use Rattle.text.specs.Bytes.{part as part_of};
+ghost use Rattle.at.specs.Refusal.{good};
+ghost use Rattle.edm.specs.Command.{command, request_of, room_of, to_send, to_write, Writes};
 
 use crate::{Channel, EdmPacket, EdmPacketError};
+use at::Text;
 use text::bytes::{has_part, part};
 use text::put::put;
 use text::utf8::is_utf8;
+
+// How many bytes of payload a buffer has room for, and at most 4,093.
+fn room_in(buf: &[u8]) -> Result<usize, EdmPacketError>
+    ensures { result ≡ room_of (length buf.now) }
+{
+    let room = buf
+        .len()
+        .checked_sub(6)
+        .ok_or(EdmPacketError::PacketDecodeTargetMemorySizeInvalid)?;
+    Ok(room.min(4093))
+}
+
+// The bytes of a place in the source.
+fn in_source<'a>(src: &'a [u8], place: Text) -> Result<&'a [u8], EdmPacketError>
+    ensures { MatchResult result (λ t. (leb (place.start + place.len) (length src.now) ≡ true) × (t.now ≡ part_of src.now place.start place.len)) (λ e. (leb (place.start + place.len) (length src.now) ≡ false) × (e ≡ EdmPacketError.PacketEncodePayloadSizeInvalid)) }
+{
+    if has_part(src, place.start, place.len) {
+        Ok(part(src, place.start, place.len))
+    } else {
+        Err(EdmPacketError::PacketEncodePayloadSizeInvalid)
+    }
+}
 
 // The frame of an identifier whose payload is `before`, `body` and `tail`.
 fn write_frame(
@@ -16,33 +40,20 @@ fn write_frame(
     body: &[u8],
     tail: &[u8],
 ) -> Result<usize, EdmPacketError>
-    requires { (6 ≤ length buf.old) × (length before.now + length tail.now ≤ 1) }
-    ensures { Writes buf.old (fitted (length buf.old) (good (command identifier (before.now ++ body.now ++ tail.now)))) result buf.new }
+    requires { length before.now + length tail.now ≤ 1 }
+    ensures { Writes buf.old (to_send (length buf.old) (good (command identifier (before.now ++ body.now ++ tail.now)))) result buf.new }
 {
-    if 4093 < body.len() {
-        return Err(EdmPacketError::PacketEncodePayloadSizeInvalid);
-    }
+    let room = room_in(buf)?;
     let n = before.len() + body.len() + tail.len();
-    if 4093 < n {
+    if room < n {
         return Err(EdmPacketError::PacketEncodePayloadSizeInvalid);
     }
-    if buf.len() - 6 < n {
-        return Err(EdmPacketError::PacketEncodePayloadSizeInvalid);
-    }
-    let length = n + 2;
-    let head = [
-        0xAAu8,
-        (length / 256 % 256) as u8,
-        (length % 256) as u8,
-        0,
-        identifier,
-    ];
-    put(buf, 0, &head);
+    let [high, low] = (n as u16 + 2).to_be_bytes();
+    put(buf, 0, &[0xAA, high, low, 0, identifier]);
     put(buf, 5, before);
     put(buf, 5 + before.len(), body);
     put(buf, 5 + before.len() + body.len(), tail);
-    let tail = [0x55u8];
-    put(buf, 5 + n, &tail);
+    put(buf, 5 + n, &[0x55]);
     Ok(n + 6)
 }
 
@@ -50,42 +61,26 @@ fn write_frame(
 pub fn write_data(buf: &mut [u8], channel: Channel, data: &[u8]) -> Result<usize, EdmPacketError>
     ensures { Writes buf.old (to_send (length buf.old) (good (command 0x36 (channel.0 ∷ «data».now)))) result buf.new }
 {
-    if buf.len() < 6 {
-        return Err(EdmPacketError::PacketDecodeTargetMemorySizeInvalid);
-    }
-    let first = [channel.0];
-    write_frame(buf, 0x36, &first, data, part(data, 0, 0))
+    write_frame(buf, 0x36, &[channel.0], data, &[])
 }
 
 // The frame of an AT request.
 pub fn write_request(buf: &mut [u8], text: &[u8]) -> Result<usize, EdmPacketError>
     ensures { Writes buf.old (to_send (length buf.old) (request_of text.now)) result buf.new }
 {
-    if buf.len() < 6 {
-        return Err(EdmPacketError::PacketDecodeTargetMemorySizeInvalid);
+    // Tested here too, since it goes before 8.
+    room_in(buf)?;
+    if !is_utf8(text) {
+        return Err(EdmPacketError::AtRequestEventDecodeError);
     }
-    if is_utf8(text) {
-        let cr = [13u8];
-        write_frame(buf, 0x44, part(text, 0, 0), text, &cr)
-    } else {
-        Err(EdmPacketError::AtRequestEventDecodeError)
-    }
+    write_frame(buf, 0x44, &[], text, b"\r")
 }
 
 // The frame that asks for the connect events again.
 pub fn write_resend(buf: &mut [u8]) -> Result<usize, EdmPacketError>
     ensures { Writes buf.old (to_send (length buf.old) (good (command 0x56 []))) result buf.new }
 {
-    if buf.len() < 6 {
-        return Err(EdmPacketError::PacketDecodeTargetMemorySizeInvalid);
-    }
-    write_frame(buf, 0x56, b"", b"", b"")
-}
-
-fn no_command() -> Result<usize, EdmPacketError>
-    ensures { shown result ≡ refused (no 9) }
-{
-    Err(EdmPacketError::PacketEncodeTypeUnknown)
+    write_frame(buf, 0x56, &[], &[], &[])
 }
 
 // The frame of a command packet, whose text or data is a place in `src`.
@@ -93,36 +88,16 @@ pub fn write(buf: &mut [u8], src: &[u8], p: EdmPacket) -> Result<usize, EdmPacke
     ensures { Writes buf.old (to_write (length buf.old) src.now p) result buf.new }
 {
     // Tested here too, since it goes before 9 and before a place past the end.
-    if buf.len() < 6 {
-        return Err(EdmPacketError::PacketDecodeTargetMemorySizeInvalid);
-    }
+    room_in(buf)?;
     match p {
-        EdmPacket::DataCommand { channel, data } => {
-            if has_part(src, data.start, data.len) {
-                write_data(buf, channel, part(src, data.start, data.len))
-            } else {
-                Err(EdmPacketError::PacketEncodePayloadSizeInvalid)
-            }
-        }
-        EdmPacket::ATRequest(t) => {
-            if has_part(src, t.start, t.len) {
-                write_request(buf, part(src, t.start, t.len))
-            } else {
-                Err(EdmPacketError::PacketEncodePayloadSizeInvalid)
-            }
-        }
+        EdmPacket::DataCommand { channel, data } => write_data(buf, channel, in_source(src, data)?),
+        EdmPacket::ATRequest(t) => write_request(buf, in_source(src, t)?),
         EdmPacket::ResendConnectEvents => write_resend(buf),
-        EdmPacket::ConnectEvent {
-            channel: _,
-            event: _,
-        } => no_command(),
-        EdmPacket::DisconnectEvent { channel: _ } => no_command(),
-        EdmPacket::DataEvent {
-            channel: _,
-            data: _,
-        } => no_command(),
-        EdmPacket::ATResponse(_) => no_command(),
-        EdmPacket::ATEvent(_) => no_command(),
-        EdmPacket::StartEvent => no_command(),
+        EdmPacket::ConnectEvent { .. }
+        | EdmPacket::DisconnectEvent { .. }
+        | EdmPacket::DataEvent { .. }
+        | EdmPacket::ATResponse(_)
+        | EdmPacket::ATEvent(_)
+        | EdmPacket::StartEvent => Err(EdmPacketError::PacketEncodeTypeUnknown),
     }
 }

@@ -1,93 +1,74 @@
-// The payloads of a frame. Each function is lent the frame without its last byte; the payload starts at place 5.
+// The payloads of a frame, which start at its place 5. Those of the AT layer are read in the frame without its last byte, as `s`, and the others
+// are lent as `t`.
 ghost use Rattle.std.specs.Prelude.{◌≡◌, drop};
 ghost use Rattle.at.specs.Line.{read_line};
-ghost use Rattle.at.specs.Response.{read_response, shown as shown_response};
-ghost use Rattle.at.specs.W26.{w26, shown as shownEvent};
+ghost use Rattle.at.specs.Response.{read_response};
+ghost use Rattle.at.specs.W26.{w26};
 ghost use Rattle.edm.specs.Packet.{shown};
 ghost use Rattle.edm.specs.Payload.{read_disconnect, read_data_event, read_request, of_response, of_event};
 
 use crate::{Channel, EdmPacket, EdmPacketError};
 use at::Text;
-use at::response::ResponseAnswer;
-use at::w26::EventAnswer;
-use text::bytes::part;
 use text::utf8::is_utf8;
 
-pub(crate) fn disconnect_event(s: &[u8]) -> Result<EdmPacket, EdmPacketError>
-    ensures { shown result ≡ read_disconnect 5 (drop 5 s.now) }
+#[tactic(auto, unfolding(crate::specs::Payload::read_disconnect))]
+pub(crate) fn disconnect_event(t: &[u8]) -> Result<EdmPacket, EdmPacketError>
+    ensures { shown result ≡ read_disconnect 5 t.now }
 {
-    if s.len() == 6 {
-        Ok(EdmPacket::DisconnectEvent {
-            channel: Channel(s[5]),
-        })
-    } else {
-        Err(EdmPacketError::DisconnectEventDecodeError)
-    }
+    let [channel] = t else {
+        return Err(EdmPacketError::DisconnectEventDecodeError);
+    };
+    Ok(EdmPacket::DisconnectEvent {
+        channel: Channel(*channel),
+    })
 }
 
-pub(crate) fn data_event(s: &[u8]) -> Result<EdmPacket, EdmPacketError>
-    ensures { shown result ≡ read_data_event 5 (drop 5 s.now) }
+#[tactic(auto, unfolding(crate::specs::Payload::read_data_event))]
+pub(crate) fn data_event(t: &[u8]) -> Result<EdmPacket, EdmPacketError>
+    ensures { shown result ≡ read_data_event 5 t.now }
 {
-    if s.len() < 6 {
+    let [channel, data @ ..] = t else {
         return Err(EdmPacketError::PacketDecodeTargetMemorySizeInvalid);
-    }
+    };
     Ok(EdmPacket::DataEvent {
-        channel: Channel(s[5]),
+        channel: Channel(*channel),
         data: Text {
             start: 6,
-            len: s.len() - 6,
+            len: data.len(),
         },
     })
 }
 
-pub(crate) fn at_request(s: &[u8]) -> Result<EdmPacket, EdmPacketError>
-    ensures { shown result ≡ read_request 5 (drop 5 s.now) }
+#[tactic(auto, unfolding(crate::specs::Payload::read_request))]
+pub(crate) fn at_request(t: &[u8]) -> Result<EdmPacket, EdmPacketError>
+    ensures { shown result ≡ read_request 5 t.now }
 {
-    let t = part(s, 5, s.len());
-    if is_utf8(t) {
-        Ok(EdmPacket::ATRequest(Text {
-            start: 5,
-            len: t.len(),
-        }))
-    } else {
-        Err(EdmPacketError::AtRequestEventDecodeError)
+    if !is_utf8(t) {
+        return Err(EdmPacketError::AtRequestEventDecodeError);
     }
+    Ok(EdmPacket::ATRequest(Text {
+        start: 5,
+        len: t.len(),
+    }))
 }
 
-fn response_refused(a: ResponseAnswer) -> Result<EdmPacket, EdmPacketError>
-    ensures { shown result ≡ of_response (shown_response a) }
-{
-    match a {
-        ResponseAnswer::Refused(e) => Err(EdmPacketError::AtPacketError(e)),
-        ResponseAnswer::Response(r) => Ok(EdmPacket::ATResponse(r)),
-    }
-}
-
+// Document 01 binds `let .. else` on the answers of the AT layer, so a `?` does not stand here or in the next function.
 pub(crate) fn at_response(s: &[u8]) -> Result<EdmPacket, EdmPacketError>
     ensures { shown result ≡ of_response (read_response 5 (drop 5 s.now)) }
 {
-    let a = at::response::read(s, 5);
-    let ResponseAnswer::Response(r) = a else {
-        return response_refused(a);
+    let answer = at::response::read(s, 5);
+    let Ok(response) = answer else {
+        return Err(EdmPacketError::from(answer.unwrap_err()));
     };
-    Ok(EdmPacket::ATResponse(r))
-}
-
-fn event_refused(a: EventAnswer) -> Result<EdmPacket, EdmPacketError>
-    ensures { shown result ≡ of_event (shownEvent a) }
-{
-    match a {
-        EventAnswer::Refused(e) => Err(EdmPacketError::AtPacketError(e)),
-        EventAnswer::Event { event, past: _ } => Ok(EdmPacket::ATEvent(event)),
-    }
+    Ok(EdmPacket::ATResponse(response))
 }
 
 pub(crate) fn at_event(s: &[u8]) -> Result<EdmPacket, EdmPacketError>
     ensures { shown result ≡ of_event (read_line w26 5 (drop 5 s.now)) }
 {
-    let a = at::w26::read(s, 5);
-    let EventAnswer::Event { event, past: _ } = a else {
-        return event_refused(a);
+    let answer = at::w26::read(s, 5);
+    let Ok(read) = answer else {
+        return Err(EdmPacketError::from(answer.unwrap_err()));
     };
-    Ok(EdmPacket::ATEvent(event))
+    Ok(EdmPacket::ATEvent(read.event))
 }
