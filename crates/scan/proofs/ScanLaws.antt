@@ -50,13 +50,13 @@ scan_listed dump room n e = go (ltb 65536 (length dump)) (leb (length (rows 0 (c
   where
     go : (long fits : Bool) → ranges n ≡ outcome (cond long (refuse 23) (cond fits (listed (cut dump)) (refuse 22)))
         → (cond long (refuse 23) (cond fits (listed (cut dump)) (refuse 22)) ≡ listed (cut dump)) × (n ≡ length (cut dump))
-    go true fits q = let z : ◌≡◌ {A = ℕ} 0 1 = cc in absurd (omega arith)
+    go true fits q = absurd cc
     go false true q = let l : n ≡ length (cut dump) = cc in (refl, l)
-    go false false q = let z : ◌≡◌ {A = ℕ} 0 1 = cc in absurd (omega arith)
+    go false false q = absurd cc
 
 pub scan_refused_lem : (dump : List ℕ) (room n : ℕ) → refusal n ≡ outcome (scanned dump room) → scanned dump room ≡ refuse n
 scan_refused_lem dump room n e = go (scanned dump room) e
   where
     go : (x : Scanned) → refusal n ≡ outcome x → x ≡ refuse n
-    go (listed ps) q = let z : ◌≡◌ {A = ℕ} 0 1 = cc in absurd (omega arith)
+    go (listed ps) q = absurd cc
     go (refuse m) q = let l : m ≡ n = cc in ap refuse l
