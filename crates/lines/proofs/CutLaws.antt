@@ -1,5 +1,5 @@
 -- A text cut at the first place of a mark, as a search finds it.
-use Prim.Native.Nat.{ℕ, ◌+◌, ◌-◌}
+use Prim.Native.Nat.{ℕ, ◌+◌, ◌-◌, ◌≤◌}
 use mathlib.Core.Path.{◌≡◌, refl, sym, ap, ◌∙◌}
 use mathlib.Core.List.{List}
 use mathlib.Core.Bool.{Bool, true, false, cond}
@@ -42,3 +42,12 @@ module _ (mark s : List ℕ) where
 
   pub found_none : first_from mark s 0 ≡ None → cut_at mark s ≡ whole
   found_none e = cut-nowhere mark s 0 e
+
+-- both texts are shorter than the one that is cut
+pub cut-shorter : (mark s front rest : List ℕ) → cut front rest ≡ cut_at mark s → length rest ≤ length s
+unfolding cut_at
+cut-shorter mark s front rest e = go (ltb (first_of mark s) (length s)) e
+  where
+    go : (k : Bool) → cut front rest ≡ cond k (cut (take (first_of mark s) s) (drop (first_of mark s + 1) s)) whole → length rest ≤ length s
+    go true e = let q : rest ≡ drop (first_of mark s + 1) s = cc in rw q (omega (arith, length-drop (first_of mark s + 1) s))
+    go false e = let z : ◌≡◌ {A = ℕ} 0 1 = cc in absurd (omega arith)

@@ -10,6 +10,7 @@ use lib.Seq.{take_at}
 use borrow.Author.Tests.{ltb-true, leb-true, leb-false}
 use Rattle.text.specs.Bytes.{bytes, same, part}
 use Rattle.std.specs.Prelude.{Ok, Err}
+use Rattle.lines.specs.declared.hex.HexError.{HexError}
 use Rattle.lines.specs.declared.hex.HexError.TheVariants.{NoHex, NoRoom}
 use Rattle.lines.specs.Hex.{digit_of, is_digit, Spelt, spells, no_hex, prepend, pairs, some_bytes, bytes_in, answer, after}
 
@@ -99,3 +100,8 @@ decoded_no-room room (spells y) e = go (leb (length y) room) refl e
     go true k e = let z : ◌≡◌ {A = ℕ} 0 1 = cc in absurd (omega arith)
     go false k e = leb-false (length y) room k
 decoded_no-room room no_hex e = let z : ◌≡◌ {A = ℕ} 0 1 = cc in absurd (omega arith)
+
+-- a refusal where there is room says that the text is no hex
+pub decoded_none : (room : ℕ) (r : Spelt) (e : HexError) → Err e ≡ answer room r → length (bytes_of r) ≤ room → r ≡ no_hex
+decoded_none room r NoHex e h = decoded_no-hex room r e
+decoded_none room r NoRoom e h = let n = decoded_no-room room r e in absurd (omega arith)

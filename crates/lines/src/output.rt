@@ -1,6 +1,6 @@
 // Standard output, collected in a buffer, and what is said of a failure.
 ghost use Rattle.std.specs.Prelude.{◌≤◌, ◌≡◌, IsSome, None};
-ghost use Rattle.lines.specs.Output.{goes_on_at};
+ghost use Rattle.lines.specs.Output.{goes_on_below, goes_on_at};
 
 use std::io;
 use text::bytes::part;
@@ -38,15 +38,22 @@ pub fn write_out<P: Print>(to: &P, output: &[u8], o: Out) -> Out
     Out { count: 0, failed }
 }
 
-// Sees that there is room for what is put next.
-pub fn with_room<P: Print>(to: &P, output: &[u8], o: Out) -> Out
-    ensures { (result.count ≡ goes_on_at o.count) × (result.count ≤ 114000) × (IsSome o.failed → result.failed ≡ o.failed) }
+// Sees that there is room for what is put next, where there may be none past a place of the buffer.
+pub fn with_room_below<P: Print>(to: &P, output: &[u8], o: Out, limit: usize) -> Out
+    ensures { (result.count ≡ goes_on_below limit o.count) × (result.count ≤ limit) × (IsSome o.failed → result.failed ≡ o.failed) }
 {
-    if NEARLY_FULL < o.count {
+    if limit < o.count {
         write_out(to, output, o)
     } else {
         o
     }
+}
+
+// Sees that there is room for what is put next.
+pub fn with_room<P: Print>(to: &P, output: &[u8], o: Out) -> Out
+    ensures { (result.count ≡ goes_on_at o.count) × (result.count ≤ 114000) × (IsSome o.failed → result.failed ≡ o.failed) }
+{
+    with_room_below(to, output, o, NEARLY_FULL)
 }
 
 // Says on standard error, as one line, what failed and why. Where that cannot be written either, there is nobody left to tell.
