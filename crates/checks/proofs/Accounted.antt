@@ -4,6 +4,7 @@ use Prim.Native.Nat.{ℕ, ◌≤◌}
 use mathlib.Core.Path.{◌≡◌, refl, sym, ap, ◌∙◌}
 use mathlib.Core.List.{List, []}
 use mathlib.Core.Bool.{Bool, true, false}
+use Rattle.std.specs.Prelude.{Some, Ok}
 use native.Mathlib.Omega.{arith}
 use lib.Dec.{leb}
 use lib.ListN.{length, drop, drop_of_length-le}
@@ -32,11 +33,6 @@ use Rattle.checks.specs.Came.{Came, Accounts, read_values, read_kinds, response_
 use Rattle.checks.specs.Explained.{accepted, some, ExplainsBinary}
 use Rattle.checks.specs.declared.part.PartWalk.{PartWalk}
 use Rattle.checks.specs.declared.part.Shape.{Shape}
-use Rattle.checks.specs.declared.frame.FrameExplained.TheVariants as in_frame
-use Rattle.checks.specs.declared.w26.W26Explained.TheVariants as in_line26
-use Rattle.checks.specs.declared.w36.W36Explained.TheVariants as in_line36
-use Rattle.checks.specs.declared.response.ResponseExplained.TheVariants as in_response
-use Rattle.checks.specs.declared.binary.BinaryExplained.TheVariants as in_binary
 use Rattle.checks.proofs.PartLaws.{parts_in_order, parts_within, frame_in_order, frame-within}
 use Rattle.checks.proofs.CameFrom.{w26-came, w36-came, binary-event-came, response-text-came, frame-came}
 use Rattle.checks.proofs.frame.explain as explain_frame
@@ -46,7 +42,7 @@ use Rattle.checks.proofs.w36.explain as explain_w36
 use Rattle.checks.proofs.binary.explain as explain_binary
 
 pub frame_accounted : (κs : Lfts 1) (a : Dens κs explain_frame.Kinds.ps) (t : AtExit (ended_of 1 explain_frame.Kinds.ps explain_frame.Kinds.r) κs) (q : EdmPacket) (w : PartWalk)
-    → explain_frame.Reads.Post κs a (in_frame.Accepted q w) t → Accounts (packet_kinds (packet_of q)) a.0.now 0 (left a.0.now w) (packet_values (packet_of q))
+    → explain_frame.Reads.Post κs a (Ok (record { answer = q; fields = w })) t → Accounts (packet_kinds (packet_of q)) a.0.now 0 (left a.0.now w) (packet_values (packet_of q))
 frame_accounted κs a t q w x =
     let s = a.0.now in
     let k = packet_of q in
@@ -69,7 +65,7 @@ by_shape : (k : Shape) (ks : List Kind) (s : List ℕ) (p : ℕ) (ps : List Part
 by_shape k ks s p ps vs h f c = rw f (record { order = parts_in_order k s p; within = parts_within k s p h; came = c })
 
 pub w26_accounted : (κs : Lfts 1) (a : Dens κs explain_w26.Kinds.ps) (t : AtExit (ended_of 1 explain_w26.Kinds.ps explain_w26.Kinds.r) κs) (q : event26.ATEvent) (past : ℕ) (w : PartWalk)
-    → explain_w26.Reads.Post κs a (in_line26.Accepted q past w) t
+    → explain_w26.Reads.Post κs a (Ok (record { answer = record { event = q; past = past }; fields = w })) t
     → let e = event_to (w26.event_of q) past in Accounts (read_kinds e) a.0.now a.1.0 (left a.0.now w) (read_values e)
 w26_accounted κs a t q past w x =
     let s = a.0.now in
@@ -79,7 +75,7 @@ w26_accounted κs a t q past w x =
     by_shape (line_shape (length s) e) (read_kinds e) s p (left s w) (read_values e) (starts_inside (read_line w26.w26 p) (no 12) (line_none w26.w26 p) s p e g) (x.places ∙ rw g) (w26-came s p e g)
 
 pub w36_accounted : (κs : Lfts 1) (a : Dens κs explain_w36.Kinds.ps) (t : AtExit (ended_of 1 explain_w36.Kinds.ps explain_w36.Kinds.r) κs) (q : event36.ATEvent) (past : ℕ) (w : PartWalk)
-    → explain_w36.Reads.Post κs a (in_line36.Accepted q past w) t
+    → explain_w36.Reads.Post κs a (Ok (record { answer = record { event = q; past = past }; fields = w })) t
     → let e = event_to (w36.event_of q) past in Accounts (read_kinds e) a.0.now a.1.0 (left a.0.now w) (read_values e)
 w36_accounted κs a t q past w x =
     let s = a.0.now in
@@ -89,7 +85,7 @@ w36_accounted κs a t q past w x =
     by_shape (line_shape (length s) e) (read_kinds e) s p (left s w) (read_values e) (starts_inside (read_line w36.w36 p) (no 12) (line_none w36.w36 p) s p e g) (x.places ∙ rw g) (w36-came s p e g)
 
 pub response_accounted : (κs : Lfts 1) (a : Dens κs explain_response.Kinds.ps) (t : AtExit (ended_of 1 explain_response.Kinds.ps explain_response.Kinds.r) κs) (q : response.ATResponse) (w : PartWalk)
-    → explain_response.Reads.Post κs a (in_response.Accepted q w) t → Accounts [] a.0.now a.1.0 (left a.0.now w) (response_values (response_of q))
+    → explain_response.Reads.Post κs a (Ok (record { answer = q; fields = w })) t → Accounts [] a.0.now a.1.0 (left a.0.now w) (response_values (response_of q))
 response_accounted κs a t q w x =
     let s = a.0.now in
     let p = a.1.0 in
@@ -109,7 +105,7 @@ tried-inside s p e f = go (leb p (length s)) refl
         let z : ◌≡◌ {A = ℕ} 0 1 = cc in absurd (omega arith)
 
 pub binary_accounted : (κs : Lfts 1) (a : Dens κs explain_binary.Kinds.ps) (t : AtExit (ended_of 1 explain_binary.Kinds.ps explain_binary.Kinds.r) κs) (q : event36.ATEvent) (past : ℕ) (w : PartWalk)
-    → explain_binary.Reads.Post κs a (in_binary.Accepted q past w) t
+    → explain_binary.Reads.Post κs a (Ok (Some (record { answer = record { event = q; past = past }; fields = w }))) t
     → let e = event_to (w36.event_of q) past in Accounts (read_kinds e) a.0.now a.1.0 (left a.0.now w) (read_values e)
 binary_accounted κs a t q past w x = go (binary_checks binary_table p (drop p s)) (try_rows binary_table p (drop p s)) refl x
   where

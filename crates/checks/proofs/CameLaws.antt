@@ -10,8 +10,7 @@ use lib.Seq.{drop-cons, drop-drop, length-take-le}
 use Rattle.text.specs.Bytes.{bytes, same, part}
 use Rattle.text.specs.Find.{crlf, first_of, last_of}
 use Rattle.text.specs.Utf8.{utf8}
-use Rattle.text.specs.declared.find.Found.{Found}
-use Rattle.text.specs.declared.find.Found.TheVariants.{At, Nothing}
+use Rattle.std.specs.Prelude.{Option, Some, None}
 use Rattle.text.proofs.Bools.{either}
 use Rattle.at.specs.Refusal.{OrRefused, good, refused, no}
 use Rattle.at.specs.Event.{Kind, Value, place}
@@ -102,9 +101,9 @@ FromPlace p (ok start n) = p ≤ start
 FromPlace p (other start n) = p ≤ start
 FromPlace p error = Unit {0}
 
-last_from : (p q : ℕ) (t : List ℕ) → p ≤ q → (f : Found) → FromPlace p (by_last q t f)
-last_from p q t h (At i) = either (FromPlace p) (same (drop (i + 2) t) (bytes "OK")) h h
-last_from p q t h Nothing = h
+last_from : (p q : ℕ) (t : List ℕ) → p ≤ q → (f : Option ℕ) → FromPlace p (by_last q t f)
+last_from p q t h (Some i) = either (FromPlace p) (same (drop (i + 2) t) (bytes "OK")) h h
+last_from p q t h None = h
 
 body-from : (p q : ℕ) (t : List ℕ) → p ≤ q → FromPlace p (read_body q t)
 unfolding read_body

@@ -6,6 +6,7 @@ use mathlib.Core.Bool.{Bool, true, false, cond, false≢true}
 use native.Mathlib.Omega.{arith}
 use lib.ListN.{length, take, drop, length-drop}
 use lib.Seq.{length-take-le}
+use Rattle.std.specs.Prelude.{Err}
 use borrow.Author.Tests.{leb-true}
 use contract.Lifetimes.{Lfts}
 use denote.Triple.Clauses.{AtExit}
@@ -35,11 +36,6 @@ use Rattle.checks.specs.Frame.{payload_checks, carried_by, frame_checks}
 use Rattle.checks.specs.declared.CheckName.{CheckName}
 use Rattle.checks.specs.Part.{parts_by, binary_shape}
 use Rattle.checks.specs.Explained.{refused_by, some, ExplainsBinary}
-use Rattle.checks.specs.declared.frame.FrameExplained.TheVariants as frame
-use Rattle.checks.specs.declared.w26.W26Explained.TheVariants as line26
-use Rattle.checks.specs.declared.w36.W36Explained.TheVariants as line36
-use Rattle.checks.specs.declared.response.ResponseExplained.TheVariants as answer
-use Rattle.checks.specs.declared.binary.BinaryExplained.TheVariants as event
 use Rattle.checks.proofs.Utf8Bound.{valid_le}
 use Rattle.checks.proofs.frame.explain as explain_frame
 use Rattle.checks.proofs.response.explain as explain_response
@@ -142,7 +138,7 @@ frame-within s =
 
 -- the explaining functions: a refusal's byte, where the input starts inside the slice
 pub frame_byte : (κs : Lfts 1) (a : Dens κs explain_frame.Kinds.ps) (t : AtExit (ended_of 1 explain_frame.Kinds.ps explain_frame.Kinds.r) κs) (e : _) (c : CheckName) (b : ℕ)
-    → explain_frame.Reads.Post κs a (frame.Refused e c b) t → b ≤ length a.0.now
+    → explain_frame.Reads.Post κs a (Err (record { error = e; check = c; byte = b })) t → b ≤ length a.0.now
 frame_byte κs a t e c b x = within _ _ (frame-within a.0.now) c _ b x.names
 
 -- the place where an input that starts at p ends
@@ -150,19 +146,19 @@ ends_there : (s : List ℕ) (p : ℕ) → p ≤ length s → p + length (drop p 
 ends_there s p h = omega (arith, length-drop p s)
 
 pub w26-byte : (κs : Lfts 1) (a : Dens κs explain_w26.Kinds.ps) (t : AtExit (ended_of 1 explain_w26.Kinds.ps explain_w26.Kinds.r) κs) (e : _) (c : CheckName) (b : ℕ)
-    → a.1.0 ≤ length a.0.now → explain_w26.Reads.Post κs a (line26.Refused e c b) t → b ≤ length a.0.now
+    → a.1.0 ≤ length a.0.now → explain_w26.Reads.Post κs a (Err (record { error = e; check = c; byte = b })) t → b ≤ length a.0.now
 w26-byte κs a t e c b h x = within _ _ (line_within w26 stays_26 _ _ _ (ends_there a.0.now a.1.0 h)) c _ b x.names
 
 pub w36-byte : (κs : Lfts 1) (a : Dens κs explain_w36.Kinds.ps) (t : AtExit (ended_of 1 explain_w36.Kinds.ps explain_w36.Kinds.r) κs) (e : _) (c : CheckName) (b : ℕ)
-    → a.1.0 ≤ length a.0.now → explain_w36.Reads.Post κs a (line36.Refused e c b) t → b ≤ length a.0.now
+    → a.1.0 ≤ length a.0.now → explain_w36.Reads.Post κs a (Err (record { error = e; check = c; byte = b })) t → b ≤ length a.0.now
 w36-byte κs a t e c b h x = within _ _ (line_within w36 stays_36 _ _ _ (ends_there a.0.now a.1.0 h)) c _ b x.names
 
 pub response-byte : (κs : Lfts 1) (a : Dens κs explain_response.Kinds.ps) (t : AtExit (ended_of 1 explain_response.Kinds.ps explain_response.Kinds.r) κs) (e : _) (c : CheckName) (b : ℕ)
-    → a.1.0 ≤ length a.0.now → explain_response.Reads.Post κs a (answer.Refused e c b) t → b ≤ length a.0.now
+    → a.1.0 ≤ length a.0.now → explain_response.Reads.Post κs a (Err (record { error = e; check = c; byte = b })) t → b ≤ length a.0.now
 response-byte κs a t e c b h x = within _ _ (response-within _ _ _ (ends_there a.0.now a.1.0 h)) c _ b x.names
 
 pub binary-byte : (κs : Lfts 1) (a : Dens κs explain_binary.Kinds.ps) (t : AtExit (ended_of 1 explain_binary.Kinds.ps explain_binary.Kinds.r) κs) (e : AtPacketError) (c : CheckName) (b : ℕ)
-    → a.1.0 ≤ length a.0.now → explain_binary.Reads.Post κs a (event.Refused e c b) t → b ≤ length a.0.now
+    → a.1.0 ≤ length a.0.now → explain_binary.Reads.Post κs a (Err (record { error = e; check = c; byte = b })) t → b ≤ length a.0.now
 binary-byte κs a t e c b h x =
     go (binary_checks binary_table a.1.0 (drop a.1.0 a.0.now)) (try_rows binary_table a.1.0 (drop a.1.0 a.0.now)) (rows-within binary_table _ a.1.0 (drop a.1.0 a.0.now) (ends_there a.0.now a.1.0 h)) x
   where

@@ -10,11 +10,11 @@ use lib.ListN.{length, take, drop, get_or, length-append, length-take, drop_of_l
 use lib.Seq.{drop-cons, drop-drop, get_or-append-add, length-take-le}
 use Rattle.text.specs.Bytes.{part}
 use Rattle.text.specs.Find.{first_of, first_from}
-use Rattle.text.specs.declared.find.Found.TheVariants.{At, Nothing}
+use Rattle.std.specs.Prelude.{Some, None}
 use Rattle.text.proofs.BytesLaws.{part-rest}
 use Rattle.text.proofs.FindLaws.{first_le, from_at, from_nothing}
-use Rattle.at.specs.Event.{Row, Event, event, event_to}
-use Rattle.at.specs.Parts.{values_of, Apart}
+use Rattle.at.specs.Event.{Row, Value, Event, event, event_to}
+use Rattle.at.specs.Parts.{values_of, parts_of, Apart}
 use Rattle.at.proofs.PartsLaws.{taken}
 use Rattle.at.specs.declared.parts.Parts.{Parts}
 use Rattle.checks.specs.Slot.{span_of, slot, field_slots, marked_slots, marked_tail, name_slot, shape_slots, end_slot, slots_of}
@@ -45,14 +45,14 @@ module _ (t : List ℕ) (n : ℕ) where
     fits : length u ≤ length t
     fits = rw whole (simp length-take (omega arith))
 
-    pub span_found : (i : ℕ) → first_from (b ∷ []) u 0 ≡ At i → (i ≡ span_of (UpTo b n) t) × (i ≤ length t)
+    pub span_found : (i : ℕ) → first_from (b ∷ []) u 0 ≡ Some i → (i ≡ span_of (UpTo b n) t) × (i ≤ length t)
     unfolding span_of
     span_found i f =
         let g = from_at (b ∷ []) u 0 i f in
         let h : i ≡ first_of (b ∷ []) u = omega (arith, g.0) in
         (h ∙ ap (first_of (b ∷ [])) whole, omega (arith, g.1, fits))
 
-    pub span_not-found : first_from (b ∷ []) u 0 ≡ Nothing → (length u ≡ span_of (UpTo b n) t) × (length u ≤ length t)
+    pub span_not-found : first_from (b ∷ []) u 0 ≡ None → (length u ≡ span_of (UpTo b n) t) × (length u ≤ length t)
     unfolding span_of
     span_not-found f =
         let g = from_nothing (b ∷ []) u 0 (omega arith) f in
@@ -181,8 +181,11 @@ module _ (s : List ℕ) (w : PartWalk) where
         rw (nk, ← here, ← eo, ← on, ← el, length-take-le over t lo, length-take-le len u ll, rest)
 
 -- at most seven values
-pub at-most-seven : (p : Parts) → length (values_of p) ≤ 7
-at-most-seven p = simp length-take (omega arith)
+seven : (i : ℕ) (vs : List Value) → length (values_of (parts_of i vs)) ≤ 7
+seven i vs = simp length-take (omega arith)
+
+pub at-most-seven : (rows : List Row) (e : Event) (p : Parts) → Apart rows e p → length (values_of p) ≤ 7
+at-most-seven rows e p a = rw (ap (λ (q : Parts). length (values_of q)) a.tidy) (seven p.row (values_of p))
 
 -- the shape of an event from its parts: as many fields as it has values
 module _ (rows : List Row) (e : Event) (p : Parts) (n : ℕ) (a : Apart rows e p) (l : n ≡ length (values_of p)) where

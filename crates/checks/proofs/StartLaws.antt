@@ -11,9 +11,9 @@ use Rattle.text.specs.Bytes.{bytes, part}
 use Rattle.text.specs.Find.{first_of, first_from}
 use Rattle.text.specs.Field.{field, next_field}
 use Rattle.text.specs.FieldSteps.{left}
-use Rattle.text.specs.declared.find.Found.TheVariants.{At, Nothing}
+use Rattle.std.specs.Prelude.{Some, None}
 use Rattle.text.specs.declared.field.Fields.{Fields}
-use Rattle.text.specs.declared.field.Next.TheVariants as next
+use Rattle.text.specs.declared.field.Next.{Next}
 use Rattle.text.proofs.FieldLaws.{step_left, left_in, left_out}
 use Rattle.text.proofs.BytesLaws.{part-rest}
 use Rattle.text.proofs.FindLaws.{from_at}
@@ -23,14 +23,14 @@ use Rattle.checks.specs.Line.{start_of}
 use Rattle.checks.specs.Steps.{start_no}
 
 module _ (s : List ℕ) (w : Fields) where
-  pub none_starts : (k : ℕ) → next_field s w ≡ next.Done → start_no k (left s w) ≡ 0
+  pub none_starts : (k : ℕ) → next_field s w ≡ None → start_no k (left s w) ≡ 0
   none_starts k e = let l : left s w ≡ [] = sym (step_left s w) ∙ rw e in rw l (ap start_of (drop-nil k))
 
-  pub passed-field : (k : ℕ) {start len : ℕ} {rest : Fields} → next_field s w ≡ next.Field start len rest → start_no (suc k) (left s w) ≡ start_no k (left s rest)
-  passed-field k {start} {len} {rest} e = let l : left s w ≡ field start (part s start len) ∷ left s rest = sym (step_left s w) ∙ rw e in rw l
+  pub passed-field : (k : ℕ) {n : Next} → next_field s w ≡ Some n → start_no (suc k) (left s w) ≡ start_no k (left s n.rest)
+  passed-field k {n} e = let l : left s w ≡ field n.start (part s n.start n.len) ∷ left s n.rest = sym (step_left s w) ∙ rw e in rw l
 
-  pub this_field : {start len : ℕ} {rest : Fields} → next_field s w ≡ next.Field start len rest → start_no 0 (left s w) ≡ start
-  this_field {start} {len} {rest} e = let l : left s w ≡ field start (part s start len) ∷ left s rest = sym (step_left s w) ∙ rw e in rw l
+  pub this_field : {n : Next} → next_field s w ≡ Some n → start_no 0 (left s w) ≡ n.start
+  this_field {n} e = let l : left s w ≡ field n.start (part s n.start n.len) ∷ left s n.rest = sym (step_left s w) ∙ rw e in rw l
 
 -- what stands from a place on, and that the place past it is a number
 pub rest-length : (s t : List ℕ) (start : ℕ) → t ≡ part s start (length s) → length t ≡ length s - start
@@ -38,7 +38,7 @@ rest-length s t start e = ap length (e ∙ part-rest s start) ∙ length-drop st
 
 -- the fields of a text, from the answer of a search for its colon
 module _ (s : List ℕ) (start : ℕ) where
-  pub after_colon : (i : ℕ) → first_from (bytes ":") s start ≡ At i → left s (record { at = i + 1 }) ≡ fields_after start (drop start s)
+  pub after_colon : (i : ℕ) → first_from (bytes ":") s start ≡ Some i → left s (record { at = i + 1 }) ≡ fields_after start (drop start s)
   unfolding fields_after
   after_colon i e =
       let f = from_at (bytes ":") s start i e in
@@ -48,7 +48,7 @@ module _ (s : List ℕ) (start : ℕ) where
       rw (lt-ltb (first_of (bytes ":") (drop start s)) (length (drop start s)) (omega (arith, f.1, length-drop start s)), l, drop-drop (first_of (bytes ":") (drop start s) + 1) start s, m)
       (left_in s (record { at = i + 1 }) (omega (arith, f.1)))
 
-  pub no_colon : first_from (bytes ":") s start ≡ Nothing → left s (record { at = length s + 1 }) ≡ fields_after start (drop start s)
+  pub no_colon : first_from (bytes ":") s start ≡ None → left s (record { at = length s + 1 }) ≡ fields_after start (drop start s)
   unfolding fields_after
   no_colon e =
       rw (le-ltb (first_of (bytes ":") (drop start s)) (length (drop start s)) (not_found (bytes ":") s start e)) (left_out s (record { at = length s + 1 }) (omega arith))
@@ -64,8 +64,8 @@ past_end (b ∷ s) zero h = absurd (omega arith)
 past_end (b ∷ s) (suc i) h = past_end s i (le_of_suc-le-suc h)
 
 -- the answer of a search from the start
-pub found_first : (t s : List ℕ) {i : ℕ} → first_from t s 0 ≡ At i → (i ≡ first_of t s) × (first_of t s < length s)
+pub found_first : (t s : List ℕ) {i : ℕ} → first_from t s 0 ≡ Some i → (i ≡ first_of t s) × (first_of t s < length s)
 found_first t s {i} e = let r = from_at t s 0 i e in let m : i ≡ first_of t s = r.0 ∙ omega arith in (m, rw (← m) r.1)
 
-pub found_nowhere : (t s : List ℕ) → first_from t s 0 ≡ Nothing → length s ≤ first_of t s
+pub found_nowhere : (t s : List ℕ) → first_from t s 0 ≡ None → length s ≤ first_of t s
 found_nowhere t s e = not_found t s 0 e

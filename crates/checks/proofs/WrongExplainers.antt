@@ -6,6 +6,7 @@ use mathlib.Core.List.{List, [], ◌∷◌}
 use mathlib.Core.Bool.{true}
 use native.Mathlib.Omega.{arith}
 use lib.ListN.{length}
+use Rattle.std.specs.Prelude.{Some, None, Err}
 use contract.Lifetimes.{Lfts}
 use denote.Triple.Clauses.{AtExit}
 use borrow.Fn.Kinds.{Dens, ended_of}
@@ -30,16 +31,12 @@ use Rattle.checks.specs.Line.{field_checks, kinds_for, text_checks, line_checks}
 use Rattle.checks.specs.Frame.{frame_checks}
 use Rattle.checks.specs.declared.CheckName.{CheckName}
 use Rattle.checks.specs.declared.CheckName.TheVariants as c
-use Rattle.checks.specs.declared.frame.FrameExplained.TheVariants as frame
-use Rattle.checks.specs.declared.w26.W26Explained.TheVariants as line26
-use Rattle.checks.specs.declared.w36.W36Explained.TheVariants as line36
 use Rattle.checks.specs.Slot.{span_of, slots_of}
 use Rattle.checks.specs.Part.{Part, ◌from◌for◌, cut, placed, left}
 use Rattle.checks.specs.declared.part.PartName.{PartName}
 use Rattle.checks.specs.declared.part.PartName.TheVariants.{RemoteAddress, RemotePort, LocalAddress, LocalPort, EndByte}
 use Rattle.checks.specs.declared.part.Shape.TheVariants.{Connect}
 use Rattle.checks.specs.declared.part.PartWalk.{PartWalk}
-use Rattle.checks.specs.declared.part.PartStep.TheVariants as step
 use Rattle.checks.proofs.OneOutcome.{one-frame}
 use Rattle.checks.proofs.frame.explain as explain_frame
 use Rattle.checks.proofs.w26.explain as explain_w26
@@ -67,14 +64,14 @@ kept-text = refl
 
 module _ (κs : Lfts 1) (a : Dens κs explain_frame.Kinds.ps) (t : AtExit (ended_of 1 explain_frame.Kinds.ps explain_frame.Kinds.r) κs) where
   -- the last byte is no 55 either, but the first byte comes before it
-  pub names-later : (e : EdmPacketError) (b : ℕ) → a.0.now ≡ hex "41 42" → explain_frame.Reads.Post κs a (frame.Refused e c.EndByte b) t → ⊥
+  pub names-later : (e : EdmPacketError) (b : ℕ) → a.0.now ≡ hex "41 42" → explain_frame.Reads.Post κs a (Err (record { error = e; check = c.EndByte; byte = b })) t → ⊥
   names-later e b s x =
       let q = x.names ∙ ap (λ (l : List ℕ). first_broken (frame_checks l)) s ∙ neither_delimiter in
       let z : c.EndByte ≡ c.StartByte = cc in
       let y : ◌≡◌ {A = ℕ} 0 1 = cc in
       omega arith
 
-  pub names-first : (e : EdmPacketError) (b : ℕ) → a.0.now ≡ hex "AA 55" → explain_frame.Reads.Post κs a (frame.Refused e c.FrameOfTwo b) t → ⊥
+  pub names-first : (e : EdmPacketError) (b : ℕ) → a.0.now ≡ hex "AA 55" → explain_frame.Reads.Post κs a (Err (record { error = e; check = c.FrameOfTwo; byte = b })) t → ⊥
   names-first e b s x =
       let q = x.names ∙ ap (λ (l : List ℕ). first_broken (frame_checks l)) s ∙ two_bytes_lem in
       let z : c.FrameOfTwo ≡ c.FrameOfSix = cc in
@@ -82,15 +79,15 @@ module _ (κs : Lfts 1) (a : Dens κs explain_frame.Kinds.ps) (t : AtExit (ended
       omega arith
 
   -- for every frame: whatever check and byte are right, the next byte is not
-  pub one-byte_off : (e d : EdmPacketError) (k l : CheckName) (b : ℕ) → explain_frame.Reads.Post κs a (frame.Refused e k b) t → explain_frame.Reads.Post κs a (frame.Refused d l (suc b)) t → ⊥
+  pub one-byte_off : (e d : EdmPacketError) (k l : CheckName) (b : ℕ) → explain_frame.Reads.Post κs a (Err (record { error = e; check = k; byte = b })) t → explain_frame.Reads.Post κs a (Err (record { error = d; check = l; byte = suc b })) t → ⊥
   one-byte_off e d k l b x y =
-      let q = one-frame κs a (frame.Refused e k b) (frame.Refused d l (suc b)) t t x y in
+      let q = one-frame κs a (Err (record { error = e; check = k; byte = b })) (Err (record { error = d; check = l; byte = suc b })) t t x y in
       let z : b ≡ suc b = cc in
       omega arith
 
 -- the type of this line is wrong too, but the handle comes before it
 pub names-later-field : (κs : Lfts 1) (a : Dens κs explain_w26.Kinds.ps) (t : AtExit (ended_of 1 explain_w26.Kinds.ps explain_w26.Kinds.r) κs) (e : AtPacketError) (b : ℕ)
-    → a.0.now ≡ bytes "\r\n+UUDPC:x,02\r\n" → a.1.0 ≡ 0 → explain_w26.Reads.Post κs a (line26.Refused e (c.FieldType 2) b) t → ⊥
+    → a.0.now ≡ bytes "\r\n+UUDPC:x,02\r\n" → a.1.0 ≡ 0 → explain_w26.Reads.Post κs a (Err (record { error = e; check = c.FieldType 2; byte = b })) t → ⊥
 names-later-field κs a t e b s p x =
     let q = rw (s, p) at x.names in
     let r = q ∙ two_fields in
@@ -99,7 +96,7 @@ names-later-field κs a t e b s p x =
 
 -- the text that W36 keeps ends at 11, the line at 17
 pub past_the_text : (κs : Lfts 1) (a : Dens κs explain_w36.Kinds.ps) (t : AtExit (ended_of 1 explain_w36.Kinds.ps explain_w36.Kinds.r) κs) (e : AtPacketError)
-    → a.0.now ≡ bytes "\r\n+UESODA:1\r\nxxxx\r\n" → a.1.0 ≡ 0 → explain_w36.Reads.Post κs a (line36.Refused e (c.FieldThere 2) 17) t → ⊥
+    → a.0.now ≡ bytes "\r\n+UESODA:1\r\nxxxx\r\n" → a.1.0 ≡ 0 → explain_w36.Reads.Post κs a (Err (record { error = e; check = c.FieldThere 2; byte = 17 })) t → ⊥
 past_the_text κs a t e s p x =
     let q = rw (s, p) at x.names in
     let r = q ∙ kept-text in
@@ -108,14 +105,14 @@ past_the_text κs a t e s p x =
 
 -- a walk that ends where a field is before it, and one that stands still and gives the same field for ever
 pub ends_early : (κs : Lfts 1) (a : Dens κs next.Kinds.ps) (t : AtExit (ended_of 1 next.Kinds.ps next.Kinds.r) κs) (p : Part) (ps : List Part)
-    → left a.1.0.now a.0 ≡ p ∷ ps → next.Reads.Post κs a step.End t → ⊥
+    → left a.1.0.now a.0 ≡ p ∷ ps → next.Reads.Post κs a None t → ⊥
 ends_early κs a t p ps e x =
     let q = x ∙ e in
     let y : ◌≡◌ {A = ℕ} 0 1 = cc in
     omega arith
 
 pub stands_still : (κs : Lfts 1) (a : Dens κs next.Kinds.ps) (t : AtExit (ended_of 1 next.Kinds.ps next.Kinds.r) κs) (n : PartName) (start len : ℕ)
-    → next.Reads.Post κs a (step.Part n start len a.0) t → ⊥
+    → next.Reads.Post κs a (Some (record { name = n; start = start; len = len; rest = a.0 })) t → ⊥
 stands_still κs a t n start len x = let l = ap length x in omega arith
 
 -- a connect event has the remote end first: the walk that stands before its address is not at the local one
@@ -126,7 +123,7 @@ remote_next = refl
 
 pub ends_exchanged : (κs : Lfts 1) (a : Dens κs next.Kinds.ps) (t : AtExit (ended_of 1 next.Kinds.ps next.Kinds.r) κs) (rest : PartWalk)
     → a.1.0.now ≡ hex "AA 00 11 00 11 03 02 01 0A 00 00 07 1F 90 0A 00 00 01 C3 50 55" → a.0 ≡ record { framed = true; shape = Connect; turn = 6; at = 8 }
-    → next.Reads.Post κs a (step.Part LocalAddress 8 4 rest) t → ⊥
+    → next.Reads.Post κs a (Some (record { name = LocalAddress; start = 8; len = 4; rest = rest })) t → ⊥
 ends_exchanged κs a t rest s w x =
     let q = (rw (s, w) at x) ∙ remote_next in
     let y : ◌≡◌ {A = ℕ} 0 1 = cc in

@@ -1,9 +1,9 @@
 -- What an explanation says, and when it is the right one: it names the first check that does not hold, answers as the reader does, and gives the
 -- fields of what the reader accepted.
-use Rattle.std.specs.Prelude.{ℕ, ◌≡◌, List, [], true}
+use Rattle.std.specs.Prelude.{ℕ, ◌≡◌, List, [], true, Option, Some, None, Result, Ok, Err}
 use Rattle.at.specs.Refusal as at
 use Rattle.at.specs.Refusal.{Refusal, OrRefused, good, refused}
-use Rattle.at.specs.Event.{ReadEvent, event_to}
+use Rattle.at.specs.Event.{ReadEvent, read_as}
 use Rattle.at.specs.W26 as w26
 use Rattle.at.specs.W36 as w36
 use Rattle.at.specs.Binary as reader
@@ -14,11 +14,15 @@ use Rattle.checks.specs.Check.{Check, Finding, all_hold, broken, first_broken, e
 use Rattle.checks.specs.Binary.{Binary, not_binary, binary}
 use Rattle.checks.specs.Part.{Part, left}
 use Rattle.checks.specs.declared.CheckName.{CheckName}
-use Rattle.checks.specs.declared.frame.FrameExplained as frame
-use Rattle.checks.specs.declared.w26.W26Explained as line26
-use Rattle.checks.specs.declared.w36.W36Explained as line36
-use Rattle.checks.specs.declared.response.ResponseExplained as response
-use Rattle.checks.specs.declared.binary.BinaryExplained as binary'
+use Rattle.at.specs.declared.AtPacketError.{AtPacketError}
+use Rattle.at.specs.declared.ReadEvent as declared
+use Rattle.at.specs.declared.w26.ATEvent as event26
+use Rattle.at.specs.declared.w36.ATEvent as event36
+use Rattle.at.specs.declared.response.ATResponse.{ATResponse}
+use Rattle.edm.specs.declared.EdmPacket.{EdmPacket}
+use Rattle.edm.specs.declared.EdmPacketError.{EdmPacketError}
+use Rattle.checks.specs.declared.Accepted.{Accepted}
+use Rattle.checks.specs.declared.Refused.{Refused}
 
 -- an explanation of an answer of a reader: what was read, with its fields; or the check, the refusal and the byte
 pub data Explanation (A : Type 0) : Type 0 where
@@ -70,24 +74,25 @@ TrueBinary not_binary q x = (x ≡ none) × (q ≡ reader.not_binary)
 TrueBinary (binary checks) q none = ⊥
 TrueBinary (binary checks) q (some x) = (a : OrRefused ReadEvent) × (q ≡ reader.tried a) × TrueExplanation checks a x
 
+-- what an answer says of the input s, where `value` gives what was read and `refusal` the refusal
+abbrev pub shown : {A B E : Type 0} → (A → B) → (E → Refusal) → List ℕ → Result (Accepted A) (Refused E) → Explanation B
+shown value refusal s (Ok a) = accepted (value a.answer) (left s a.fields)
+shown value refusal s (Err r) = refused_by r.check (refusal r.error) r.byte
+
 -- what each answer says of the input s
-abbrev pub shown_frame : List ℕ → frame.FrameExplained → Explanation Packet
-shown_frame s (frame.TheVariants.Accepted p w) = accepted (packet_of p) (left s w)
-shown_frame s (frame.TheVariants.Refused e c b) = refused_by c (edm.refusal_of e) b
+abbrev pub shown_frame : List ℕ → Result (Accepted EdmPacket) (Refused EdmPacketError) → Explanation Packet
+shown_frame = shown packet_of edm.refusal_of
 
-abbrev pub shown_w26 : List ℕ → line26.W26Explained → Explanation ReadEvent
-shown_w26 s (line26.TheVariants.Accepted e past w) = accepted (event_to (w26.event_of e) past) (left s w)
-shown_w26 s (line26.TheVariants.Refused e c b) = refused_by c (at.refusal_of e) b
+abbrev pub shown_w26 : List ℕ → Result (Accepted (declared.ReadEvent event26.ATEvent)) (Refused AtPacketError) → Explanation ReadEvent
+shown_w26 = shown (read_as w26.event_of) at.refusal_of
 
-abbrev pub shown_w36 : List ℕ → line36.W36Explained → Explanation ReadEvent
-shown_w36 s (line36.TheVariants.Accepted e past w) = accepted (event_to (w36.event_of e) past) (left s w)
-shown_w36 s (line36.TheVariants.Refused e c b) = refused_by c (at.refusal_of e) b
+abbrev pub shown_w36 : List ℕ → Result (Accepted (declared.ReadEvent event36.ATEvent)) (Refused AtPacketError) → Explanation ReadEvent
+shown_w36 = shown (read_as w36.event_of) at.refusal_of
 
-abbrev pub shown_response : List ℕ → response.ResponseExplained → Explanation Response
-shown_response s (response.TheVariants.Accepted r w) = accepted (response_of r) (left s w)
-shown_response s (response.TheVariants.Refused e c b) = refused_by c (at.refusal_of e) b
+abbrev pub shown_response : List ℕ → Result (Accepted ATResponse) (Refused AtPacketError) → Explanation Response
+shown_response = shown response_of at.refusal_of
 
-abbrev pub shown_binary : List ℕ → binary'.BinaryExplained → IfBinary
-shown_binary s binary'.TheVariants.NotBinary = none
-shown_binary s (binary'.TheVariants.Accepted e past w) = some (accepted (event_to (w36.event_of e) past) (left s w))
-shown_binary s (binary'.TheVariants.Refused e c b) = some (refused_by c (at.refusal_of e) b)
+abbrev pub shown_binary : List ℕ → Result (Option (Accepted (declared.ReadEvent event36.ATEvent))) (Refused AtPacketError) → IfBinary
+shown_binary s (Ok None) = none
+shown_binary s (Ok (Some a)) = some (accepted (read_as w36.event_of a.answer) (left s a.fields))
+shown_binary s (Err r) = some (refused_by r.check (at.refusal_of r.error) r.byte)

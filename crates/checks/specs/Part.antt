@@ -1,6 +1,6 @@
 -- The fields of an accepted input with their places, in its order. The bytes of all pieces, joined, are the input (proofs/PartLaws.antt), so that
 -- the fields cover it with what stands between them.
-use Rattle.std.specs.Prelude.{ℕ, zero, suc, ◌+◌, ◌-◌, ◌≤◌, ◌≡◌, List, [], ◌∷◌, ◌++◌, true, false, length, take, drop}
+use Rattle.std.specs.Prelude.{ℕ, zero, suc, ◌+◌, ◌-◌, ◌≤◌, ◌≡◌, List, [], ◌∷◌, ◌++◌, true, false, length, take, drop, Option, Some, None}
 use Prim.Native.Char.{code}
 use Rattle.text.specs.Bytes.{part}
 use Rattle.at.specs.Event.{Event, event, ReadEvent, event_to}
@@ -12,7 +12,6 @@ use Rattle.checks.specs.declared.part.Shape.{Shape}
 use Rattle.checks.specs.declared.part.Shape.TheVariants as shape
 use Rattle.checks.specs.declared.part.PartWalk.{PartWalk}
 use Rattle.checks.specs.declared.part.PartStep.{PartStep}
-use Rattle.checks.specs.declared.part.PartStep.TheVariants as step
 use Rattle.checks.specs.declared.slot.Slot.{Slot}
 
 -- bytes of the input: those of a field, or those that are passed over
@@ -131,6 +130,6 @@ unfoldable pub left : List ℕ → PartWalk → List Part
 left s w = placed w.at (cut (drop w.turn (slots_of w.framed w.shape)) (drop w.at s))
 
 -- what a step of a walk says of them
-abbrev pub shown : List ℕ → PartStep → List Part
-shown s (step.Part n start len rest) = (n from start for len) ∷ left s rest
-shown s step.End = []
+abbrev pub shown : List ℕ → Option PartStep → List Part
+shown s (Some p) = (p.name from p.start for p.len) ∷ left s p.rest
+shown s None = []

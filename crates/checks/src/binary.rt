@@ -14,36 +14,20 @@ use crate::field::text_reason;
 use crate::part::{PartWalk, Shape};
 use crate::refusal::at_number;
 use crate::slot::less;
-use crate::{CheckName, Reason};
-use at::AtPacketError;
-use at::parts::value_count;
-use at::w36::{ATEvent, BinaryAnswer, parts, try_parse_binary};
+use crate::{Accepted, CheckName, Reason, Refused};
+use at::parts::Parts;
+use at::w36::{ATEvent, try_parse_binary};
+use at::{AtPacketError, ReadEvent};
 use text::bytes::{part, starts_at};
-use text::find::{Found, first_byte};
+use text::find::first_byte;
 use text::utf8::valid_up_to;
-
-// `past` is the place just past the event.
-#[derive(Clone, Copy)]
-pub enum BinaryExplained {
-    NotBinary,
-    Accepted {
-        event: ATEvent,
-        past: usize,
-        fields: PartWalk,
-    },
-    Refused {
-        error: AtPacketError,
-        check: CheckName,
-        byte: usize,
-    },
-}
 
 // The shape of an event that ends at `past` of an input of `n` bytes. Its data is the last of its values.
 fn shape_of(event: ATEvent, n: usize, past: usize) -> Shape
     ensures { result ≡ binary_shape n (event_to (event_of event) past) }
 {
     Shape::Binary {
-        fields: less(value_count(parts(event)), 1) as u8,
+        fields: less(Parts::from(event).value_count(), 1) as u8,
         but: less(n, past),
     }
 }
@@ -72,7 +56,7 @@ fn body_reason(s: &[u8], start: usize, e: AtPacketError) -> Reason
     let number = at_number(e);
     let t = part(s, start, s.len());
     let end = start + t.len();
-    let Found::At(m) = first_byte(t, 0, 1) else {
+    let Some(m) = first_byte(t, 0, 1) else {
         return Reason {
             check: CheckName::Marker,
             byte: end,
@@ -106,30 +90,27 @@ fn reason_of(s: &[u8], from: usize, e: AtPacketError) -> Reason
     }
 }
 
-// The event that starts at `from`.
-pub fn explain(s: &[u8], from: usize) -> BinaryExplained
+// The event that starts at `from`; `None` where no binary event does.
+pub fn explain(
+    s: &[u8],
+    from: usize,
+) -> Result<Option<Accepted<ReadEvent<ATEvent>>>, Refused<AtPacketError>>
     ensures { ExplainsBinary (binary_checks binary_table from (drop from s.now)) (try_rows binary_table from (drop from s.now)) (λ e. parts_by (binary_shape (length s.now) e) s.now from) (shown_binary s.now result) }
 {
     match try_parse_binary(s, from) {
-        BinaryAnswer::NotBinary => BinaryExplained::NotBinary,
-        BinaryAnswer::Event { event, past } => BinaryExplained::Accepted {
-            event,
-            past,
+        Ok(None) => Ok(None),
+        Ok(Some(answer)) => Ok(Some(Accepted {
+            answer,
             fields: PartWalk {
                 framed: false,
-                shape: shape_of(event, s.len(), past),
+                shape: shape_of(answer.event, s.len(), answer.past),
                 turn: 0,
                 at: from,
             },
-        },
-        BinaryAnswer::Refused(error) => {
-            let reason = reason_of(s, from, error);
-            let check = reason.check;
-            BinaryExplained::Refused {
-                error,
-                check,
-                byte: reason.byte,
-            }
+        })),
+        Err(error) => {
+            let Reason { check, byte } = reason_of(s, from, error);
+            Err(Refused { error, check, byte })
         }
     }
 }

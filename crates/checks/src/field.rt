@@ -9,8 +9,7 @@ ghost use Rattle.checks.specs.Steps.{start_no, form_check, text_reason};
 use crate::{CheckName, Reason};
 use at::{AtPacketError, FieldError};
 use text::bytes::part;
-use text::field::Next;
-use text::find::{Found, first_byte};
+use text::find::first_byte;
 use text::number::NumberError;
 use text::walk::field_at;
 
@@ -34,24 +33,15 @@ fn nth_start(s: &[u8], start: usize, field: u8) -> usize
     let mut at = start;
     let mut i = 1;
     while i < field {
-        let Next::Field {
-            start: _,
-            len: _,
-            rest,
-        } = field_at(s, at)
-        else {
+        let Some(next) = field_at(s, at) else {
             return 0;
         };
-        at = rest.at;
+        at = next.rest.at;
         i += 1;
     }
     match field_at(s, at) {
-        Next::Field {
-            start: first,
-            len: _,
-            rest: _,
-        } => first,
-        Next::Done => 0,
+        Some(next) => next.start,
+        None => 0,
     }
 }
 
@@ -60,8 +50,8 @@ pub(crate) fn fields_after(s: &[u8], start: usize) -> usize
     ensures { left s.now (record { at = result }) ≡ fields_after start (drop start s.now) }
 {
     match first_byte(s, start, b':') {
-        Found::At(i) => i + 1,
-        Found::Nothing => s.len() + 1,
+        Some(i) => i + 1,
+        None => s.len() + 1,
     }
 }
 

@@ -15,25 +15,12 @@ use crate::line::line_reason;
 use crate::part::{PartWalk, Shape};
 use crate::response::response_reason;
 use crate::slot::less;
-use crate::{CheckName, Reason};
+use crate::{Accepted, CheckName, Reason, Refused};
 use at::AtPacketError;
 use edm::frame::read;
-use edm::{EdmPacket, EdmPacketError, FrameAnswer};
+use edm::{EdmPacket, EdmPacketError};
 use text::bytes::part;
 use text::utf8::valid_up_to;
-
-#[derive(Clone, Copy)]
-pub enum FrameExplained {
-    Accepted {
-        packet: EdmPacket,
-        fields: PartWalk,
-    },
-    Refused {
-        error: EdmPacketError,
-        check: CheckName,
-        byte: usize,
-    },
-}
 
 // The byte at a place; 0 past the end.
 fn byte(s: &[u8], i: usize) -> u8
@@ -190,27 +177,22 @@ fn shape_of(packet: EdmPacket) -> Shape
     }
 }
 
-pub fn explain(s: &[u8]) -> FrameExplained
+pub fn explain(s: &[u8]) -> Result<Accepted<EdmPacket>, Refused<EdmPacketError>>
     ensures { Explains (frame_checks s.now) (read_frame s.now) (frame_parts s.now) (shown_frame s.now result) }
 {
     match read(s) {
-        FrameAnswer::Packet(packet) => FrameExplained::Accepted {
-            packet,
+        Ok(answer) => Ok(Accepted {
+            answer,
             fields: PartWalk {
                 framed: true,
-                shape: shape_of(packet),
+                shape: shape_of(answer),
                 turn: 0,
                 at: 0,
             },
-        },
-        FrameAnswer::Refused(error) => {
-            let reason = reason_of(s, error);
-            let check = reason.check;
-            FrameExplained::Refused {
-                error,
-                check,
-                byte: reason.byte,
-            }
+        }),
+        Err(error) => {
+            let Reason { check, byte } = reason_of(s, error);
+            Err(Refused { error, check, byte })
         }
     }
 }

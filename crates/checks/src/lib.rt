@@ -13,6 +13,8 @@ mod slot;
 pub mod w26;
 pub mod w36;
 
+use crate::part::PartWalk;
+
 // The checks of document 01 by name, in its order: of frames, of lines, of responses, of binary events. A field is counted from 1.
 #[derive(Clone, Copy)]
 pub enum CheckName {
@@ -44,6 +46,21 @@ pub enum CheckName {
     Marker,
     LengthBytes,
     DataBytes,
+}
+
+// What a reader accepted, and the walk over the fields that it came from.
+#[derive(Clone, Copy)]
+pub struct Accepted<A> {
+    pub answer: A,
+    pub fields: PartWalk,
+}
+
+// Why a reader refused, the check that does not hold, and the byte that shows it.
+#[derive(Clone, Copy)]
+pub struct Refused<E> {
+    pub error: E,
+    pub check: CheckName,
+    pub byte: usize,
 }
 
 // The check that does not hold, and the byte that shows it.

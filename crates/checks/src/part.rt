@@ -2,7 +2,7 @@
 ghost use Rattle.std.specs.Prelude.{◌≡◌};
 ghost use Rattle.checks.specs.Part.{left, shown};
 
-use crate::slot::{slot_at, slot_count, span_of};
+use crate::slot::{Slot, slot_at, slot_count, span_of};
 use text::bytes::part;
 
 // What a field is. An event's fields are counted from 1.
@@ -51,32 +51,32 @@ pub struct PartWalk {
 
 // A field of `len` bytes from `start` on, and the walk that remains.
 #[derive(Clone, Copy)]
-pub enum PartStep {
-    Part {
-        name: PartName,
-        start: usize,
-        len: usize,
-        rest: PartWalk,
-    },
-    End,
+pub struct PartStep {
+    pub name: PartName,
+    pub start: usize,
+    pub len: usize,
+    pub rest: PartWalk,
 }
 
 impl PartWalk {
     // The next field of the input `s`.
-    pub fn next(self, s: &[u8]) -> PartStep
+    pub fn next(self, s: &[u8]) -> Option<PartStep>
         ensures { shown s.now result ≡ left s.now self }
     {
-        let framed = self.framed;
-        let shape = self.shape;
-        let turn = self.turn;
-        let at = self.at;
+        let Self {
+            framed,
+            shape,
+            turn,
+            at,
+        } = self;
         if slot_count(framed, shape) <= turn {
-            return PartStep::End;
+            return None;
         }
-        let slot = slot_at(framed, shape, turn);
-        let pass = slot.pass;
-        let name = slot.name;
-        let size = slot.len;
+        let Slot {
+            pass,
+            name,
+            len: size,
+        } = slot_at(framed, shape, turn);
         let t = part(s, at, s.len());
         let over = span_of(pass, t);
         let len = span_of(size, part(t, over, t.len()));
@@ -87,11 +87,11 @@ impl PartWalk {
             turn: turn + 1,
             at: start + len,
         };
-        PartStep::Part {
+        Some(PartStep {
             name,
             start,
             len,
             rest,
-        }
+        })
     }
 }

@@ -11,25 +11,12 @@ ghost use Rattle.checks.specs.Steps.{response_reason};
 use crate::part::{PartWalk, Shape};
 use crate::refusal::at_number;
 use crate::slot::less;
-use crate::{CheckName, Reason};
+use crate::{Accepted, CheckName, Reason, Refused};
 use at::AtPacketError;
-use at::response::{ATResponse, ResponseAnswer, read};
+use at::response::{ATResponse, read};
 use text::bytes::part;
-use text::find::{Found, first_crlf};
+use text::find::first_crlf;
 use text::utf8::valid_up_to;
-
-#[derive(Clone, Copy)]
-pub enum ResponseExplained {
-    Accepted {
-        response: ATResponse,
-        fields: PartWalk,
-    },
-    Refused {
-        error: AtPacketError,
-        check: CheckName,
-        byte: usize,
-    },
-}
 
 // The shape of a response that starts at `from`.
 pub(crate) fn shape_of(r: ATResponse, from: usize) -> Shape
@@ -60,11 +47,11 @@ pub(crate) fn response_reason(s: &[u8], from: usize, e: AtPacketError) -> Reason
     }
     let byte = from + t.len();
     match first_crlf(t, 0) {
-        Found::At(_) => Reason {
+        Some(_) => Reason {
             check: CheckName::LastLineEnd,
             byte,
         },
-        Found::Nothing => Reason {
+        None => Reason {
             check: CheckName::FirstLineEnd,
             byte,
         },
@@ -72,27 +59,22 @@ pub(crate) fn response_reason(s: &[u8], from: usize, e: AtPacketError) -> Reason
 }
 
 // The response that starts at `from`.
-pub fn explain(s: &[u8], from: usize) -> ResponseExplained
+pub fn explain(s: &[u8], from: usize) -> Result<Accepted<ATResponse>, Refused<AtPacketError>>
     ensures { Explains (response_checks from (drop from s.now)) (read_response from (drop from s.now)) (λ a. parts_by (response_shape from a) s.now from) (shown_response s.now result) }
 {
     match read(s, from) {
-        ResponseAnswer::Response(response) => ResponseExplained::Accepted {
-            response,
+        Ok(answer) => Ok(Accepted {
+            answer,
             fields: PartWalk {
                 framed: false,
-                shape: shape_of(response, from),
+                shape: shape_of(answer, from),
                 turn: 0,
                 at: from,
             },
-        },
-        ResponseAnswer::Refused(error) => {
-            let reason = response_reason(s, from, error);
-            let check = reason.check;
-            ResponseExplained::Refused {
-                error,
-                check,
-                byte: reason.byte,
-            }
+        }),
+        Err(error) => {
+            let Reason { check, byte } = response_reason(s, from, error);
+            Err(Refused { error, check, byte })
         }
     }
 }

@@ -4,7 +4,7 @@ ghost use Rattle.checks.specs.Slot.{span_of, slot as slotFor, field_slots, marke
 
 use crate::part::{PartName, Shape};
 use text::bytes::part;
-use text::find::{Found, first_byte};
+use text::find::first_byte;
 
 // So many bytes; all but the last ones; or those before the first byte of a value, of all but the last ones.
 #[derive(Clone, Copy)]
@@ -44,8 +44,8 @@ pub(crate) fn span_of(span: Span, t: &[u8]) -> usize
         Span::UpTo(b, n) => {
             let u = part(t, 0, less(t.len(), n));
             match first_byte(u, 0, b) {
-                Found::At(i) => i,
-                Found::Nothing => u.len(),
+                Some(i) => i,
+                None => u.len(),
             }
         }
     }

@@ -7,36 +7,21 @@ ghost use Rattle.checks.specs.Line.{inner, line_checks};
 ghost use Rattle.checks.specs.Part.{event_shape, line_shape, parts_by};
 ghost use Rattle.checks.specs.Explained.{Explains, shown_w36};
 
-use crate::CheckName;
 use crate::line::line_reason;
 use crate::part::{PartWalk, Shape};
 use crate::slot::less;
-use at::AtPacketError;
-use at::parts::value_count;
-use at::w36::{ATEvent, EventAnswer, parts, read};
+use crate::{Accepted, Reason, Refused};
+use at::parts::Parts;
+use at::w36::{ATEvent, read};
+use at::{AtPacketError, ReadEvent};
 use text::bytes::part;
-use text::find::{Found, first_crlf};
-
-// `past` is the place just past the event.
-#[derive(Clone, Copy)]
-pub enum W36Explained {
-    Accepted {
-        event: ATEvent,
-        past: usize,
-        fields: PartWalk,
-    },
-    Refused {
-        error: AtPacketError,
-        check: CheckName,
-        byte: usize,
-    },
-}
+use text::find::first_crlf;
 
 fn shape_of(event: ATEvent, but: usize) -> Shape
     ensures { result ≡ event_shape but (event_of event) }
 {
     Shape::Event {
-        fields: value_count(parts(event)) as u8,
+        fields: Parts::from(event).value_count() as u8,
         but,
     }
 }
@@ -50,35 +35,32 @@ fn text_end(s: &[u8], from: usize) -> usize
         return n;
     }
     match first_crlf(part(s, 0, n), from + 2) {
-        Found::At(i) => i,
-        Found::Nothing => n,
+        Some(i) => i,
+        None => n,
     }
 }
 
 // The line that starts at `from`.
-pub fn explain(s: &[u8], from: usize) -> W36Explained
+pub fn explain(
+    s: &[u8],
+    from: usize,
+) -> Result<Accepted<ReadEvent<ATEvent>>, Refused<AtPacketError>>
     ensures { Explains (line_checks w36 from (drop from s.now)) (read_line w36 from (drop from s.now)) (λ e. parts_by (line_shape (length s.now) e) s.now from) (shown_w36 s.now result) }
 {
     let n = s.len();
     match read(s, from) {
-        EventAnswer::Event { event, past } => W36Explained::Accepted {
-            event,
-            past,
+        Ok(answer) => Ok(Accepted {
+            answer,
             fields: PartWalk {
                 framed: false,
-                shape: shape_of(event, less(n + 2, past)),
+                shape: shape_of(answer.event, less(n + 2, answer.past)),
                 turn: 0,
                 at: from,
             },
-        },
-        EventAnswer::Refused(error) => {
-            let reason = line_reason(s, from, text_end(s, from), error);
-            let check = reason.check;
-            W36Explained::Refused {
-                error,
-                check,
-                byte: reason.byte,
-            }
+        }),
+        Err(error) => {
+            let Reason { check, byte } = line_reason(s, from, text_end(s, from), error);
+            Err(Refused { error, check, byte })
         }
     }
 }

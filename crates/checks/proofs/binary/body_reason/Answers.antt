@@ -13,12 +13,12 @@ use Rattle.checks.proofs.Utf8Bound.{valid_le}
 use Rattle.checks.proofs.StartLaws.{rest-length, found_first, found_nowhere, part_front}
 use Rattle.checks.proofs.ReasonLaws.{unmarked, body-not-utf8, in_data, in_fields}
 use Rattle.checks.proofs.binary.body_reason.Goals as goal
-use Rattle.checks.proofs.binary.body_reason.Goals.{In-At}
+use Rattle.checks.proofs.binary.body_reason.Goals.{In-Some}
 
 -- `binary::body_reason` meets its contract.
 -- the marker: where it stands, and that it is one of the bytes
-marked : (c : In-At) → let t = c.part-t.result.now in (c.in-At.m ≡ first_of marker t) × (first_of marker t < length t)
-marked c = found_first _ _ (sym c.first_byte.ensures ∙ c.in-At.is)
+marked : (c : In-Some) → let t = c.part-t.result.now in (c.in-Some.m ≡ first_of marker t) × (first_of marker t < length t)
+marked c = found_first _ _ (sym c.first_byte.ensures ∙ c.in-Some.is)
 
 pub overflow_add-end : goal.overflow_add-end
 overflow_add-end c = omega (arith, rest-length _ _ _ c.part-t.ensures)
@@ -28,32 +28,32 @@ returns-in_default c = let e = c.part-t.ensures ∙ part-rest _ _ in
     rw (← e) (unmarked _ _ _ (found_nowhere _ _ (sym c.first_byte.ensures ∙ c.in_default.is)))
 
 pub overflow_add-result : goal.overflow_add-result
-overflow_add-result c = let m = marked (goal.at.overflow_add-result c).In-At in
-    let k : length c.part.result.now ≡ c.in-At.m = ap length (c.part.ensures ∙ part_front _ _) ∙ length-take-le _ _ (omega (arith, m.0, m.1)) in
+overflow_add-result c = let m = marked (goal.at.overflow_add-result c).In-Some in
+    let k : length c.part.result.now ≡ c.in-Some.m = ap length (c.part.ensures ∙ part_front _ _) ∙ length-take-le _ _ (omega (arith, m.0, m.1)) in
     omega (arith, rest-length _ _ _ c.part-t.ensures, c.valid_up_to.ensures, valid_le c.part.result.now, k, m.0, m.1)
 
 pub returns-then-number-eq11 : goal.returns-then-number-eq11
 returns-then-number-eq11 c = let e = c.part-t.ensures ∙ part-rest _ _ in
-    let m = marked (goal.at.returns-then-number-eq11 c).In-At in
+    let m = marked (goal.at.returns-then-number-eq11 c).In-Some in
     let v = c.valid_up_to.ensures ∙ ap valid_up_to (c.part.ensures ∙ part_front _ _ ∙ ap (λ (k : ℕ). take k c.part-t.result.now) m.0) in
     rw (← e, v) (body-not-utf8 _ _ _ m.1 (sym c.at_number-number.ensures ∙ c.if-number-eq11.true))
 
 pub overflow_add-m : goal.overflow_add-m
-overflow_add-m c = let m = marked (goal.at.overflow_add-m c).In-At in omega (arith, rest-length _ _ _ c.part-t.ensures, m.0, m.1)
+overflow_add-m c = let m = marked (goal.at.overflow_add-m c).In-Some in omega (arith, rest-length _ _ _ c.part-t.ensures, m.0, m.1)
 
 pub returns-then-number-eq12 : goal.returns-then-number-eq12
 returns-then-number-eq12 c = let e = c.part-t.ensures ∙ part-rest _ _ in
-    let m = marked (goal.at.returns-then-number-eq12 c).In-At in
+    let m = marked (goal.at.returns-then-number-eq12 c).In-Some in
     let d = c.part-then-number-eq12.ensures ∙ part-rest _ _ ∙ ap (λ (k : ℕ). drop (k + 1) c.part-t.result.now) m.0 in
     c.data_reason.ensures _ ∙ rw (← e, d) (in_data _ _ _ m.1 (sym c.at_number-number.ensures ∙ c.if-number-eq12.true))
 
 pub overflow_add-start : goal.overflow_add-start
-overflow_add-start c = let m = marked (goal.at.overflow_add-start c).In-At in omega (arith, rest-length _ _ _ c.part-t.ensures, m.0, m.1)
+overflow_add-start c = let m = marked (goal.at.overflow_add-start c).In-Some in omega (arith, rest-length _ _ _ c.part-t.ensures, m.0, m.1)
 
 pub returns : goal.returns
 returns c = let e = c.part-t.ensures ∙ part-rest _ _ in
-    let m = marked (goal.at.returns c).In-At in
-    let h : c.args.start + c.in-At.m ≤ length c.args.s.now = omega (arith, rest-length _ _ _ c.part-t.ensures, m.0, m.1) in
+    let m = marked (goal.at.returns c).In-Some in
+    let h : c.args.start + c.in-Some.m ≤ length c.args.s.now = omega (arith, rest-length _ _ _ c.part-t.ensures, m.0, m.1) in
     let t = front_text _ _ _ _ h c.part-2.ensures in
     let f = front_fields _ _ _ _ h c.part-2.ensures in
     c.text_reason.ensures

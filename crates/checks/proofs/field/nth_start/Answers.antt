@@ -14,11 +14,11 @@ pub loop-i-preserved : goal.loop-i-preserved
 loop-i-preserved c = let f = c.args.field in
     let i = c.loop-i.i in
     let m : f - i ≡ suc (f - (i + 1)) = omega (arith, c.loop-i-test.true) in
-    (omega arith, c.loop-i.invariant.1 ∙ rw m (passed-field _ _ (f - (i + 1)) (sym c.field_at.ensures ∙ c.in-Field.is)))
+    (omega arith, c.loop-i.invariant.1 ∙ rw m (passed-field _ _ (f - (i + 1)) (sym c.field_at.ensures ∙ c.in-Some.is)))
 
-pub returns-in-Field-field_at : goal.returns-in-Field-field_at
-returns-in-Field-field_at c = let m : c.args.field - c.loop-i.i ≡ 0 = omega (arith, c.loop-i-test.false) in
-    sym (c.loop-i.invariant.1 ∙ rw m (this_field _ _ (sym c.field_at-2.ensures ∙ c.in-Field-field_at.is)))
+pub returns-in-Some-field_at : goal.returns-in-Some-field_at
+returns-in-Some-field_at c = let m : c.args.field - c.loop-i.i ≡ 0 = omega (arith, c.loop-i-test.false) in
+    sym (c.loop-i.invariant.1 ∙ rw m (this_field _ _ (sym c.field_at-2.ensures ∙ c.in-Some-field_at.is)))
 
-pub returns-in-Done : goal.returns-in-Done
-returns-in-Done c = sym (c.loop-i.invariant.1 ∙ none_starts _ _ (c.args.field - c.loop-i.i) (sym c.field_at-2.ensures ∙ c.in-Done.is))
+pub returns-in-None : goal.returns-in-None
+returns-in-None c = sym (c.loop-i.invariant.1 ∙ none_starts _ _ (c.args.field - c.loop-i.i) (sym c.field_at-2.ensures ∙ c.in-None.is))

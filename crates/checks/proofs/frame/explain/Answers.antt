@@ -3,8 +3,8 @@ use Rattle.edm.specs.Packet.{shown}
 use Rattle.checks.proofs.ExplainLaws.{frame-accepted, frame_refused}
 use Rattle.checks.proofs.frame.explain.Goals as goal
 
-pub returns-in-Packet : goal.returns-in-Packet
-returns-in-Packet c = let a = c.args in frame-accepted a.s.now _ _ (sym c.read.ensures ∙ ap shown c.in-Packet.is) c.shape_of.ensures
+pub returns-in-Ok : goal.returns-in-Ok
+returns-in-Ok c = let a = c.args in frame-accepted a.s.now _ _ (sym c.read.ensures ∙ ap shown c.in-Ok.is) c.shape_of.ensures
 
-pub returns-in-Refused : goal.returns-in-Refused
-returns-in-Refused c = let a = c.args in frame_refused a.s.now _ _ _ (sym c.read.ensures ∙ ap shown c.in-Refused.is) c.reason_of-reason.ensures
+pub returns-in-Err : goal.returns-in-Err
+returns-in-Err c = let a = c.args in frame_refused a.s.now _ _ _ (sym c.read.ensures ∙ ap shown c.in-Err.is) c.reason_of-check.ensures

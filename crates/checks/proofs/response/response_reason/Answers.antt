@@ -16,10 +16,10 @@ returns-then-at_number-eq11 c = let e = c.part-t.ensures ∙ part-rest _ _ in
 pub overflow_add-byte : goal.overflow_add-byte
 overflow_add-byte c = omega (arith, rest-length _ _ _ c.part-t.ensures)
 
-pub returns-in-At : goal.returns-in-At
-returns-in-At c = let e = c.part-t.ensures ∙ part-rest _ _ in
-    rw (← e) (no_last_end _ _ _ (λ q. c.if-at_number-eq11.false (c.at_number.ensures ∙ q)) (found_first _ _ (sym c.first_crlf.ensures ∙ c.in-At.is)).1)
+pub returns-in-Some : goal.returns-in-Some
+returns-in-Some c = let e = c.part-t.ensures ∙ part-rest _ _ in
+    rw (← e) (no_last_end _ _ _ (λ q. c.if-at_number-eq11.false (c.at_number.ensures ∙ q)) (found_first _ _ (sym c.first_crlf.ensures ∙ c.in-Some.is)).1)
 
-pub returns-in-Nothing : goal.returns-in-Nothing
-returns-in-Nothing c = let e = c.part-t.ensures ∙ part-rest _ _ in
-    rw (← e) (no-first-end _ _ _ (λ q. c.if-at_number-eq11.false (c.at_number.ensures ∙ q)) (found_nowhere _ _ (sym c.first_crlf.ensures ∙ c.in-Nothing.is)))
+pub returns-in-None : goal.returns-in-None
+returns-in-None c = let e = c.part-t.ensures ∙ part-rest _ _ in
+    rw (← e) (no-first-end _ _ _ (λ q. c.if-at_number-eq11.false (c.at_number.ensures ∙ q)) (found_nowhere _ _ (sym c.first_crlf.ensures ∙ c.in-None.is)))

@@ -9,14 +9,14 @@ returns-in-Exactly c = rw c.in-Exactly.is (span_exactly _ _ _ c.part.ensures)
 pub returns-in-AllBut : goal.returns-in-AllBut
 returns-in-AllBut c = rw c.in-AllBut.is (span_all_but _ _ _ c.less.ensures)
 
-pub returns-in-At : goal.returns-in-At
-returns-in-At c =
-    let found = rw c.in-At.is at (sym c.first_byte.ensures) in
+pub returns-in-Some : goal.returns-in-Some
+returns-in-Some c =
+    let found = rw c.in-Some.is at (sym c.first_byte.ensures) in
     rw c.in-UpTo.is
     (span_found _ _ _ _ _ c.less-in-UpTo.ensures c.part-u.ensures _ found)
 
-pub returns-in-Nothing : goal.returns-in-Nothing
-returns-in-Nothing c =
-    let found = rw c.in-Nothing.is at (sym c.first_byte.ensures) in
+pub returns-in-None : goal.returns-in-None
+returns-in-None c =
+    let found = rw c.in-None.is at (sym c.first_byte.ensures) in
     rw c.in-UpTo.is
     (span_not-found _ _ _ _ _ c.less-in-UpTo.ensures c.part-u.ensures found)

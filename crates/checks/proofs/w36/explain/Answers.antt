@@ -5,10 +5,10 @@ use Rattle.checks.proofs.PlaceLaws.{kept_matters}
 use Rattle.checks.proofs.ExplainLaws.{line_accepted, line_refused}
 use Rattle.checks.proofs.w36.explain.Goals as goal
 
-pub returns-in-Event : goal.returns-in-Event
-returns-in-Event c = let a = c.args in
-    line_accepted w36 w36_chooses a.s.now a.from _ _ (sym c.read.ensures ∙ ap shown c.in-Event.is) (c.shape_of.ensures ∙ rw c.less.ensures)
+pub returns-in-Ok : goal.returns-in-Ok
+returns-in-Ok c = let a = c.args in
+    line_accepted w36 w36_chooses a.s.now a.from _ _ (sym c.read.ensures ∙ ap shown c.in-Ok.is) (c.shape_of.ensures ∙ rw c.less.ensures)
 
-pub returns-in-Refused : goal.returns-in-Refused
-returns-in-Refused c = let a = c.args in
-    line_refused w36 w36_chooses a.s.now a.from _ _ _ (sym c.read.ensures ∙ ap shown c.in-Refused.is) (c.line_reason-reason.ensures ∙ kept_matters _ _ _ _ _ c.text_end.ensures)
+pub returns-in-Err : goal.returns-in-Err
+returns-in-Err c = let a = c.args in
+    line_refused w36 w36_chooses a.s.now a.from _ _ _ (sym c.read.ensures ∙ ap shown c.in-Err.is) (c.line_reason-check.ensures ∙ kept_matters _ _ _ _ _ c.text_end.ensures)

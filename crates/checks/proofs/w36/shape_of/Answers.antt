@@ -4,7 +4,7 @@ use Rattle.checks.proofs.w36.shape_of.Goals as goal
 
 -- `w36::shape_of` meets its contract. Assumes nothing.
 pub overflow_cast-result : goal.overflow_cast-result
-overflow_cast-result c = omega (arith, c.value_count.ensures, at-most-seven c.parts.result)
+overflow_cast-result c = omega (arith, c.value_count.ensures, at-most-seven _ _ _ c.from.ensures)
 
 pub returns : goal.returns
-returns c = event-shape _ _ _ _ c.parts.ensures c.value_count.ensures _
+returns c = event-shape _ _ _ _ c.from.ensures c.value_count.ensures _

@@ -28,4 +28,4 @@ returns c =
     let over = c.span_of-over.ensures in
     let len = c.span_of-len.ensures in
     let more = rw c.slot_count.ensures.0 at c.if-slot_count-turn.false in
-    walk-part _ _ _ _ _ _ _ more c.slot_at-slot.ensures c.part-t.ensures over.0 over.1 c.part.ensures len.0 len.1
+    walk-part _ _ _ _ _ _ _ more c.slot_at-pass.ensures c.part-t.ensures over.0 over.1 c.part.ensures len.0 len.1
