@@ -1,20 +1,23 @@
 -- The fields of a line one after the other: what is still to be written from a field on, and whether it can be written.
-use borrow.Author.Tests.{ne_eqb, le-leb}
-use mathlib.Core.Bool.{Bool, true, false, cond}
-use mathlib.Core.List.{List, [], ◌∷◌, ◌++◌, append-nil}
+use borrow.Author.Tests.{le-leb}
+use mathlib.Core.Bool.{Bool}
+use mathlib.Core.List.{List, [], ◌∷◌, ◌++◌, append-nil, map}
 use mathlib.Core.Path.{◌≡◌, refl, ap, sym, ◌∙◌}
 use Prim.Native.Nat.{ℕ, ◌+◌, ◌≤◌, ◌<◌}
 use native.Mathlib.Numerals.{add-one}
 use native.Mathlib.Omega.{arith}
-use lib.Dec.{eqb}
-use lib.ListN.{length, take, drop, get_or, length-append, take-append-drop, length-map, get_or-map, drop_of_length-le}
-use lib.Seq.{drop-cons, get_or-take, length-take-le}
+use lib.ListN.{length, take, drop, get_or, length-append, take-append-drop, drop_of_length-le}
+use lib.Seq.{drop-cons}
+use Rattle.std.specs.Prelude.{Option, Some, None}
+use Rattle.std.specs.List.{list_all}
 use Rattle.text.proofs.PutAppend.{after_append}
+use Rattle.text.proofs.PutLaws.{room, ends}
 use Rattle.text.specs.Field.{join}
-use Rattle.text.specs.Put.{placed, after}
-use Rattle.at.specs.Event.{Value, num}
-use Rattle.writer.specs.Line.{plain, content_of, contents_of, written, after_name}
-use Rattle.writer.specs.Steps.{field_texts}
+use Rattle.text.specs.Put.{placed, wrote, after}
+use Rattle.at.specs.Parts.{value_of}
+use Rattle.at.specs.declared.parts.Value as code
+use Rattle.writer.specs.Line.{content_of, written, after_name}
+use Rattle.writer.specs.Steps.{texts}
 use Rattle.writer.specs.Write.{writable_field, writable_fields}
 
 -- each text after a byte: the first after this one, the others after a comma (44)
@@ -32,72 +35,47 @@ unfolding after_name separated
 after_separated [] = refl
 after_separated (f ∷ fs) = rw (joined f fs)
 
--- the byte in front of the field with this number: a colon (58) in front of the first
-abbrev pub separator : ℕ → ℕ
-separator i = cond (eqb i 0) 58 44
+-- they are as long after any other byte
+pub as_long_after : (sep : ℕ) (fs : List (List ℕ)) → length (after_name fs) ≡ length (separated sep fs)
+unfolding separated
+as_long_after sep fs = ap length (after_separated fs) ∙ go fs
+  where
+    go : (fs : List (List ℕ)) → length (separated 58 fs) ≡ length (separated sep fs)
+    go [] = refl
+    go (f ∷ fs) = refl
 
--- the fields from this one on
-unfoldable pub from : List (List ℕ) → ℕ → List ℕ
-from fs i = separated (separator i) (drop i fs)
+-- the fields from one on: that one, and those after it
+module _ (sep : ℕ) (src : List ℕ) (fields : List code.Value) (i : ℕ) where
+  pub separated-next : (d : code.Value) → i < length fields
+      → separated sep (texts src (drop i fields)) ≡ sep ∷ (written (content_of src (value_of (get_or fields i d))) ++ separated 44 (texts src (drop (i + 1) fields)))
+  unfolding separated
+  separated-next d h = rw (add-one i, drop-cons fields i d h)
 
-pub from_first : (fs : List (List ℕ)) → from fs 0 ≡ after_name fs
-unfolding from
-from_first fs = sym (after_separated fs)
+  pub length-next : (d : code.Value) → i < length fields
+      → length (separated sep (texts src (drop i fields))) ≡ 1 + length (written (content_of src (value_of (get_or fields i d)))) + length (separated 44 (texts src (drop (i + 1) fields)))
+  length-next d h =
+      let l = length-append (written (content_of src (value_of (get_or fields i d)))) (separated 44 (texts src (drop (i + 1) fields))) in
+      ap length (separated-next d h) ∙ omega (arith, l)
 
-pub from_next : (fs : List (List ℕ)) (i : ℕ) (d : List ℕ) → i < length fs → from fs i ≡ separator i ∷ (get_or fs i d ++ from fs (i + 1))
-unfolding from separated
-from_next fs i d h = rw (ne_eqb (i + 1) 0 (λ e. omega arith), add-one i, drop-cons fs i d h)
+  -- after the last one
+  pub separated-end : length fields ≤ i → separated sep (texts src (drop i fields)) ≡ []
+  unfolding separated
+  separated-end h = rw (drop_of_length-le fields {i = i} h)
 
-pub from_end : (fs : List (List ℕ)) (i : ℕ) → length fs ≤ i → from fs i ≡ []
-unfolding from separated
-from_end fs i h = rw (drop_of_length-le fs {i = i} h)
-
--- the first n values, and their texts
-module _ (vs : List Value) (n : ℕ) (w : n ≤ length vs) where
-  pub texts_count : (src : List ℕ) → length (field_texts src n vs) ≡ n
-  texts_count src =
-      let cs = contents_of src vs in
-      length-map (take n cs) written ∙ length-take-le n cs (rw (length-map vs (content_of src)) w)
-
-  -- after the last field
-  pub values-end : (i : ℕ) → n ≤ i → drop i (take n vs) ≡ []
-  values-end i h = drop_of_length-le (take n vs) {i = i} (omega (arith, length-take-le n vs w))
-
-  pub fields-end : (src : List ℕ) (i : ℕ) → n ≤ i → from (field_texts src n vs) i ≡ []
-  fields-end src i h = from_end (field_texts src n vs) i (omega (arith, texts_count src))
-
-  module _ (i : ℕ) (h : i < n) (v : Value) (e : v ≡ get_or vs i (num 0)) where
-    -- a turn of a loop over the fields
-    pub fields-next : (src : List ℕ) → from (field_texts src n vs) i ≡ separator i ∷ (written (content_of src v) ++ from (field_texts src n vs) (i + 1))
-    fields-next src =
-        let s = from_next (field_texts src n vs) i (written (plain 0)) (rw (texts_count src) h) in
-        let t = get_or-map written (take n (contents_of src vs)) i (plain 0) in
-        let u = get_or-take n (contents_of src vs) i (plain 0) h in
-        let x = get_or-map (content_of src) vs i (num 0) in
-        s ∙ rw (t, u, x, ← e)
-
-    pub fields-length : (src : List ℕ) → length (from (field_texts src n vs) i) ≡ 1 + length (written (content_of src v)) + length (from (field_texts src n vs) (i + 1))
-    fields-length src =
-        let l = length-append (written (content_of src v)) (from (field_texts src n vs) (i + 1)) in
-        ap length (fields-next src) ∙ omega (arith, l)
-
-    pub values-next : drop i (take n vs) ≡ v ∷ drop (i + 1) (take n vs)
-    values-next =
-        rw (add-one i) (drop-cons (take n vs) i (num 0) (rw (length-take-le n vs w) h) ∙ rw (get_or-take n vs i (num 0) h, ← e))
-
--- a field that can be written leaves the fields after it; one that can't settles it
-module _ (marked : Bool) (src : List ℕ) (v : Value) (vs : List Value) where
-  pub writable-next : writable_field marked src v ≡ true → writable_fields marked src (v ∷ vs) ≡ writable_fields marked src vs
-  unfolding writable_fields
-  writable-next e = rw e
-
-  pub writable-stop : writable_field marked src v ≡ false → writable_fields marked src (v ∷ vs) ≡ false
-  unfolding writable_fields
-  writable-stop e = rw e
-
-pub writable-none : (marked : Bool) (src : List ℕ) → writable_fields marked src [] ≡ true
+-- whether each field can be written
+pub writable_all : (marked : Bool) (src : List ℕ) (fields : List code.Value)
+    → writable_fields marked src (map value_of fields) ≡ list_all (λ v. writable_field marked src (value_of v)) fields
 unfolding writable_fields
-writable-none marked src = refl
+writable_all marked src [] = refl
+writable_all marked src (v ∷ vs) = rw (writable_all marked src vs)
+
+-- where there is room, a put answers the place past its bytes
+module _ (b : List ℕ) (at : ℕ) (ds : List ℕ) (r : Option ℕ) (e : r ≡ wrote b at ds) where
+  pub not_refused : at + length ds ≤ length b → r ≡ None → ⊥
+  not_refused h n = let s : None ≡ Some (at + length ds) = sym n ∙ e ∙ (room b at ds h).0 in cc
+
+  pub put_to : (to : ℕ) → r ≡ Some to → to ≡ at + length ds
+  put_to to s = (ends b at ds to (sym e ∙ s)).1
 
 -- nothing put at a place; and a turn of a loop that puts fields: a byte, a text and what stands after them
 pub after_nothing : (b : List ℕ) (k : ℕ) → k ≤ length b → after b k [] ≡ b

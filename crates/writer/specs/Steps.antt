@@ -1,36 +1,33 @@
 -- What the private steps of the code say. No promise of a public function cites this file.
-use Rattle.std.specs.Prelude.{ℕ, ◌-◌, ◌≤◌, ◌<◌, List, ◌++◌, map, cond, leb, length, take, drop, get_or}
+use Rattle.std.specs.Prelude.{ℕ, List, [], ◌∷◌, ◌++◌, Bool, Option, Some, None, map, cond}
 use Rattle.text.specs.Find.{crlf}
 use Rattle.at.specs.Refusal.{OrRefused, refused, no}
-use Rattle.at.specs.Event.{Value, num}
-use Rattle.writer.specs.Line.{content_of, contents_of, written, after_name, ending}
+use Rattle.at.specs.Event.{Value}
+use Rattle.at.specs.Parts.{value_of}
+use Rattle.at.specs.declared.parts.Value as code
+use Rattle.writer.specs.Line.{contents_of, written, after_name, ending}
 use Rattle.writer.specs.Write.{writable_end, fitted}
-use Rattle.writer.specs.declared.room.Room.{Room}
-use Rattle.writer.specs.declared.room.Room.TheVariants as room
+use Rattle.writer.specs.declared.line.Line.{Line}
 
--- the first n values are fields, and what stands after them is the data; the fields as they are written
-abbrev pub field_texts : List ℕ → ℕ → List Value → List (List ℕ)
-field_texts src n vs = map written (take n (contents_of src vs))
+-- the fields as they are written
+abbrev pub texts : List ℕ → List code.Value → List (List ℕ)
+texts src fields = map written (contents_of src (map value_of fields))
 
--- the line of a name and its values, and what is to be written of it
-abbrev pub line_as : List ℕ → List ℕ → ℕ → List Value → List ℕ
-line_as src name n vs = crlf ++ name ++ after_name (field_texts src n vs) ++ ending (drop n (contents_of src vs))
+-- the data of a binary event, or none
+abbrev pub data_in : Option code.Value → List Value
+data_in None = []
+data_in (Some v) = value_of v ∷ []
 
-abbrev pub write_as : ℕ → List ℕ → List ℕ → ℕ → List Value → OrRefused (List ℕ)
-write_as size src name n vs = cond (writable_end src (take n vs) (drop n vs)) (fitted size (line_as src name n vs)) (refused (no 17))
+-- the end of a line, and all of it
+unfoldable pub ends : Line → List ℕ
+ends l = ending (contents_of l.src.now (data_in l.data))
 
--- the data, where there are any, have a length of two bytes
-abbrev pub SmallData : List ℕ → ℕ → List Value → Type 0
-SmallData src n vs = n < length vs → length (written (content_of src (get_or vs n (num 0)))) ≤ 65535
+unfoldable pub bytes_of : Line → List ℕ
+bytes_of l = crlf ++ l.name.now ++ after_name (texts l.src.now l.fields.now) ++ ends l
 
--- what is left of a room, or that it is too small
-pub data Left : Type 0 where
-  some : ℕ → Left
-  short : Left
+abbrev pub can_be_written : Line → Bool
+can_be_written l = writable_end l.src.now (map value_of l.fields.now) (data_in l.data)
 
-abbrev pub room_after : ℕ → ℕ → Left
-room_after size need = cond (leb need size) (some (size - need)) short
-
-abbrev pub room_of : Room → Left
-room_of (room.Left n) = some n
-room_of room.Short = short
+-- what is to be written of it
+abbrev pub write_as : ℕ → Line → OrRefused (List ℕ)
+write_as size l = cond (can_be_written l) (fitted size (bytes_of l)) (refused (no 17))

@@ -1,168 +1,147 @@
 // The line of an event in parts, whatever the radio: CR LF and the name, the fields, and CR LF or the data. It is checked whole before a byte is
-// changed. `n` is the number of fields; a value after them is the data.
-ghost use Rattle.std.specs.Prelude.{◌≡◌, List, ◌+◌, ◌≤◌, min, leb, length, take, drop};
+// changed.
+ghost use Rattle.std.specs.Prelude.{◌≡◌, List, ◌+◌, ◌-◌, ◌≤◌, true, Some, SomeIff, length};
+ghost use Rattle.std.specs.List.{list_all};
 ghost use Rattle.text.specs.Put.{after};
 ghost use Rattle.at.specs.Event.{Row};
 ghost use Rattle.at.specs.TableSteps.{Tabled};
-ghost use Rattle.at.specs.Parts.{values_of, together};
-ghost use Rattle.writer.specs.Line.{after_name, ending, contents_of};
-ghost use Rattle.writer.specs.Write.{writable_fields, writable_end, parts_for, Writes};
-ghost use Rattle.writer.specs.Steps.{field_texts, line_as, write_as, room_of, room_after, SmallData};
+ghost use Rattle.at.specs.Parts.{value_of, together};
+ghost use Rattle.writer.specs.Line.{after_name};
+ghost use Rattle.writer.specs.Write.{writable_field, parts_for, Writes};
+ghost use Rattle.writer.specs.Steps.{texts, ends, bytes_of, can_be_written, write_as};
 
+use crate::EventWriteError;
 use crate::item::{data_writable, item_len, item_writable, put_item};
-use crate::room::{Room, less};
-use crate::{EventWriteError, WriteAnswer};
-use at::parts::{Parts, value_at, value_count};
+use at::parts::{Parts, Value};
 use at::table::{kinds_at, name_at};
 use text::put::put;
 
-fn fields_writable(src: &[u8], p: Parts, n: usize, marked: bool) -> bool
-    requires { n ≤ length (values_of p) }
-    ensures { result ≡ writable_fields marked src.now (take n (values_of p)) }
-{
-    let mut i = 0;
-    while i < n {
-        if !item_writable(src, value_at(p, i), marked) {
-            return false;
-        }
-        i += 1;
-    }
-    true
+// What a line says: a name, the fields, and the data of a binary event. Texts and data are places in `src`.
+#[derive(Clone, Copy)]
+struct Line<'a> {
+    src: &'a [u8],
+    name: &'a [u8],
+    fields: &'a [Value],
+    data: Option<Value>,
 }
 
-fn writable(src: &[u8], p: Parts, n: usize) -> bool
-    requires { n ≤ length (values_of p) }
-    ensures { result ≡ writable_end src.now (take n (values_of p)) (drop n (values_of p)) }
+fn fields_writable(src: &[u8], fields: &[Value], marked: bool) -> bool
+    ensures { result ≡ list_all (λ v. writable_field marked src.now (value_of v)) fields.now }
 {
-    if n < value_count(p) {
-        if fields_writable(src, p, n, true) {
-            data_writable(src, value_at(p, n))
-        } else {
-            false
-        }
-    } else {
-        fields_writable(src, p, n, false)
-    }
+    fields
+        .iter()
+        .all(|field| item_writable(src, *field, marked))
 }
 
 // The room after the fields, each with the colon or comma in front of it.
-fn room_after_fields(src: &[u8], p: Parts, n: usize, room: usize) -> Room
-    requires { n ≤ length (values_of p) }
-    ensures { room_of result ≡ room_after room (length (after_name (field_texts src.now n (values_of p)))) }
+fn room_after_fields(src: &[u8], fields: &[Value], room: usize) -> Option<usize>
+    ensures { SomeIff result (length (after_name (texts src.now fields.now)) ≤ room) (room - length (after_name (texts src.now fields.now))) }
 {
     let mut left = room;
-    let mut i = 0;
-    while i < n {
-        if left == 0 {
-            return Room::Short;
+    for field in fields {
+        left = left.checked_sub(1)?.checked_sub(item_len(src, *field))?;
+    }
+    Some(left)
+}
+
+// The fields at a place of the buffer, each after its colon or comma; the place past them.
+fn put_fields(buf: &mut [u8], at: usize, src: &[u8], fields: &[Value]) -> Option<usize>
+    requires { at + length (after_name (texts src.now fields.now)) ≤ length buf.old }
+    ensures { (result ≡ Some (at + length (after_name (texts src.now fields.now)))) × (buf.new ≡ after buf.old at (after_name (texts src.now fields.now))) }
+{
+    let mut to = at;
+    let mut separator = b':';
+    for field in fields {
+        to = put(buf, to, &[separator])?;
+        to = put_item(buf, to, src, *field)?;
+        separator = b',';
+    }
+    Some(to)
+}
+
+impl<'a> Line<'a> {
+    fn is_writable(self) -> bool
+        ensures { result ≡ can_be_written self.entry }
+    {
+        match self.data {
+            Some(data) => {
+                fields_writable(self.src, self.fields, true) && data_writable(self.src, data)
+            }
+            None => fields_writable(self.src, self.fields, false),
         }
-        let len = item_len(src, value_at(p, i));
-        if left - 1 < len {
-            return Room::Short;
+    }
+
+    // What is left of a room after the line.
+    fn room_after(self, room: usize) -> Option<usize>
+        ensures { SomeIff result (length (bytes_of self.entry) ≤ room) (room - length (bytes_of self.entry)) }
+    {
+        let head = room.checked_sub(2)?.checked_sub(self.name.len())?;
+        let left = room_after_fields(self.src, self.fields, head)?;
+        match self.data {
+            Some(data) => left.checked_sub(3)?.checked_sub(item_len(self.src, data)),
+            None => left.checked_sub(2),
         }
-        left = left - 1 - len;
-        i += 1;
     }
-    Room::Left(left)
-}
 
-fn fits(src: &[u8], name: &[u8], p: Parts, n: usize, room: usize) -> bool
-    requires { n ≤ length (values_of p) }
-    ensures { result ≡ leb (length (line_as src.now name.now n (values_of p))) room }
-{
-    let Room::Left(after_head) = less(room, 2 + name.len()) else {
-        return false;
-    };
-    let Room::Left(after_fields) = room_after_fields(src, p, n, after_head) else {
-        return false;
-    };
-    if n < value_count(p) {
-        let Room::Left(after_marker) = less(after_fields, 3) else {
-            return false;
-        };
-        item_len(src, value_at(p, n)) <= after_marker
-    } else {
-        2 <= after_fields
+    // CR LF, or the marker and the data, at a place of the buffer; the place past it.
+    fn put_ending(self, buf: &mut [u8], at: usize) -> Option<usize>
+        requires { (can_be_written self ≡ true) × (at + length (ends self) ≤ length buf.old) }
+        ensures { (result ≡ Some (at + length (ends self.entry))) × (buf.new ≡ after buf.old at (ends self.entry)) }
+    {
+        match self.data {
+            Some(data) => {
+                let [high, low] = (item_len(self.src, data) as u16).to_be_bytes();
+                let to = put(buf, at, &[1, high, low])?;
+                put_item(buf, to, self.src, data)
+            }
+            None => put(buf, at, b"\r\n"),
+        }
     }
-}
 
-// The fields at a place of the buffer, each after its colon or comma; the place after them.
-fn put_fields(buf: &mut [u8], at: usize, src: &[u8], p: Parts, n: usize) -> usize
-    requires { (n ≤ length (values_of p)) × (at + length (after_name (field_texts src.now n (values_of p))) ≤ length buf.old) }
-    ensures { (result ≡ at + length (after_name (field_texts src.now n (values_of p)))) × (buf.new ≡ after buf.old at (after_name (field_texts src.now n (values_of p)))) }
-{
-    let mut k = at;
-    let mut i = 0;
-    while i < n {
-        let item = value_at(p, i);
-        let separator = if i == 0 { [b':'] } else { [b','] };
-        put(buf, k, &separator);
-        put_item(buf, k + 1, src, item);
-        k = k + 1 + item_len(src, item);
-        i += 1;
+    // The whole line, in a buffer that has room for it; its length.
+    fn put(self, buf: &mut [u8]) -> Option<usize>
+        requires { (can_be_written self ≡ true) × (length (bytes_of self) ≤ length buf.old) }
+        ensures { (result ≡ Some (length (bytes_of self.entry))) × (buf.new ≡ after buf.old 0 (bytes_of self.entry)) }
+    {
+        let mut to = put(buf, 0, b"\r\n")?;
+        to = put(buf, to, self.name)?;
+        to = put_fields(buf, to, self.src, self.fields)?;
+        self.put_ending(buf, to)
     }
-    k
-}
 
-// CR LF, or the marker and the data, at a place of the buffer; the place after it.
-fn put_ending(buf: &mut [u8], at: usize, src: &[u8], p: Parts, n: usize) -> usize
-    requires { (at + length (ending (drop n (contents_of src.now (values_of p)))) ≤ length buf.old) × SmallData src.now n (values_of p) }
-    ensures { (result ≡ at + length (ending (drop n (contents_of src.now (values_of p))))) × (buf.new ≡ after buf.old at (ending (drop n (contents_of src.now (values_of p))))) }
-{
-    if n < value_count(p) {
-        let data = value_at(p, n);
-        let len = item_len(src, data);
-        let high = (len / 256 % 256) as u8;
-        let low = (len % 256) as u8;
-        let marker = [1, high, low];
-        put(buf, at, &marker);
-        put_item(buf, at + 3, src, data);
-        at + 3 + len
-    } else {
-        put(buf, at, b"\r\n");
-        at + 2
+    fn write(self, buf: &mut [u8]) -> Result<usize, EventWriteError>
+        ensures { Writes buf.old (write_as (length buf.old) self.entry) result buf.new }
+    {
+        if !self.is_writable() {
+            return Err(EventWriteError::FieldNotWritable);
+        }
+        if self.room_after(buf.len()).is_none() {
+            return Err(EventWriteError::EventBufferTooSmall);
+        }
+        self.put(buf).ok_or(EventWriteError::EventBufferTooSmall)
     }
 }
 
-// The whole line, in a buffer that has room for it.
-fn put_line(buf: &mut [u8], src: &[u8], name: &[u8], p: Parts, n: usize) -> usize
-    requires { (n ≤ length (values_of p)) × (length (line_as src.now name.now n (values_of p)) ≤ length buf.old) × SmallData src.now n (values_of p) }
-    ensures { (result ≡ length (line_as src.now name.now n (values_of p))) × (buf.new ≡ after buf.old 0 (line_as src.now name.now n (values_of p))) }
-{
-    put(buf, 0, b"\r\n");
-    put(buf, 2, name);
-    let at = put_fields(buf, 2 + name.len(), src, p, n);
-    put_ending(buf, at, src, p, n)
-}
-
-fn write_line(buf: &mut [u8], src: &[u8], name: &[u8], p: Parts, n: usize) -> WriteAnswer
-    requires { n ≤ length (values_of p) }
-    ensures { Writes buf.old (write_as (length buf.old) src.now name.now n (values_of p)) result buf.new }
-{
-    if !writable(src, p, n) {
-        return WriteAnswer::Refused(EventWriteError::FieldNotWritable);
-    }
-    if !fits(src, name, p, n, buf.len()) {
-        return WriteAnswer::Refused(EventWriteError::EventBufferTooSmall);
-    }
-    WriteAnswer::Wrote(put_line(buf, src, name, p, n))
-}
-
-// How many of the values are fields: as many as the row has kinds.
-fn field_count(p: Parts, kinds: usize) -> usize
-    ensures { result ≡ min kinds (length (values_of p)) }
-{
-    let all = value_count(p);
-    if kinds < all { kinds } else { all }
-}
-
-// The line of the event in these parts, by the table of its radio.
-pub(crate) fn write_parts(buf: &mut [u8], src: &[u8], table: &[u8], p: Parts) -> WriteAnswer
+// The line of the event in these parts, by the table of its radio. As many of the values are fields as the row has kinds, and one after them is the
+// data.
+pub(crate) fn write_parts(
+    buf: &mut [u8],
+    src: &[u8],
+    table: &[u8],
+    p: Parts,
+) -> Result<usize, EventWriteError>
     ensures { (rows : List Row) → Tabled rows table.now → Writes buf.old (parts_for (length buf.old) src.now (together rows p)) result buf.new }
 {
     if table.len() / 20 <= p.row {
-        return WriteAnswer::Refused(EventWriteError::FieldNotWritable);
+        return Err(EventWriteError::FieldNotWritable);
     }
-    let n = field_count(p, kinds_at(table, p.row).len());
-    write_line(buf, src, name_at(table, p.row), p, n)
+    let values = &p.values[..p.value_count()];
+    let (fields, later) = values.split_at(kinds_at(table, p.row).len().min(values.len()));
+    let line = Line {
+        src,
+        name: name_at(table, p.row),
+        fields,
+        data: later.first().copied(),
+    };
+    line.write(buf)
 }

@@ -1,62 +1,33 @@
-use borrow.Author.Rules.{rules}
-use mathlib.Core.List.{List, []}
-use mathlib.Core.Path.{◌≡◌, sym, ◌∙◌, ap}
-use Prim.Native.Nat.{ℕ, ◌+◌, ◌-◌}
-use native.Mathlib.Omega.{arith}
-use lib.ListN.{length}
-use Rattle.at.specs.Parts.{value_of, values_of}
-use Rattle.writer.specs.Steps.{field_texts, room_after}
-use Rattle.writer.proofs.FieldsLaws.{from, from_first, from_next, texts_count, fields-length, fields-end}
-use Rattle.writer.proofs.RoomLaws.{room_whole, room_after_lem, room-over}
+use Rattle.std.proofs.Common.{arith}
+use Rattle.at.specs.declared.parts.Value.TheVariants.{Number}
+use Rattle.writer.specs.Steps.{texts}
+use Rattle.writer.proofs.FieldsLaws.{as_long_after, length-next, separated-end}
 use Rattle.writer.proofs.line.room_after_fields.Goals as goal
-use Rattle.writer.proofs.line.room_after_fields.Goals.{After-item_len-len}
 
-pub loop-i-init : goal.loop-i-init
-loop-i-init c =
-    let first = from_first (field_texts c.args.src.now c.args.n (values_of c.args.p)) in
-    (search rules, ap (λ (l : List ℕ). room_after c.args.room (length l)) (sym first))
+-- `line::room_after_fields` meets its contract: each field takes one byte and its own. Assumes nothing.
+pub loop-field-init : goal.loop-field-init
+loop-field-init c = omega (arith, as_long_after 44 (texts c.args.src.now c.args.fields.now))
 
-pub returns-then-left-eq0 : goal.returns-then-left-eq0
-returns-then-left-eq0 c =
-    let ts = field_texts c.args.src.now c.args.n (values_of c.args.p) in
-    let some_bytes_lem = ap length (from_next ts c.loop-i.i [] (omega (arith, texts_count (values_of c.args.p) c.args.n c.requires c.args.src.now))) in
-    sym (c.loop-i.invariant.1 ∙ room-over c.loop-i.left (length (from ts c.loop-i.i)) (omega arith))
+pub returns-in_err-checked_sub : goal.returns-in_err-checked_sub
+returns-in_err-checked_sub c =
+    let n = length-next 44 c.args.src.now c.args.fields.now c.loop-field.field-index (Number 0) c.loop-field-test.true in
+    rw c.from_residual.ensures (λ h. c.in_err-checked_sub.ensures (omega (arith, c.loop-field.invariant)))
 
-pub overflow_sub-left : goal.overflow_sub-left
-overflow_sub-left c = omega arith
+pub returns-in_err-left : goal.returns-in_err-left
+returns-in_err-left c =
+    let n = length-next 44 c.args.src.now c.args.fields.now c.loop-field.field-index (Number 0) c.loop-field-test.true in
+    let one = c.in_ok-checked_sub.ensures in
+    rw c.from_residual-in_err-left.ensures (λ h. c.in_err-left.ensures (omega (arith, c.loop-field.invariant, c.item_len.ensures)))
 
--- the fields from `i` on are the separator, the item that was measured, and the fields after it
-here : (c : After-item_len-len)
-    → length (from (field_texts c.args.src.now c.args.n (values_of c.args.p)) c.loop-i.i) ≡ 1 + c.item_len-len.result + length (from (field_texts c.args.src.now c.args.n (values_of c.args.p)) (c.loop-i.i + 1))
-here c =
-    rw c.item_len-len.ensures
-    (fields-length (values_of c.args.p) c.args.n c.requires c.loop-i.i c.loop-i-test.true (value_of c.value_at.result) c.value_at.ensures c.args.src.now)
-
-pub returns-then-left-len : goal.returns-then-left-len
-returns-then-left-len c =
-    let n : ℕ = length (from (field_texts c.args.src.now c.args.n (values_of c.args.p)) c.loop-i.i) in
-    sym (c.loop-i.invariant.1 ∙ room-over c.loop-i.left n (omega (arith, here (goal.at.returns-then-left-len c).After-item_len-len)))
-
-pub overflow_sub-left-in-loop-i : goal.overflow_sub-left-in-loop-i
-overflow_sub-left-in-loop-i c = omega arith
-
-pub overflow_sub-left-in-loop-i-2 : goal.overflow_sub-left-in-loop-i-2
-overflow_sub-left-in-loop-i-2 c = omega arith
-
-pub overflow_add-i : goal.overflow_add-i
-overflow_add-i c = omega arith
-
-pub loop-i-smaller : goal.loop-i-smaller
-loop-i-smaller c = omega arith
-
-pub loop-i-preserved : goal.loop-i-preserved
-loop-i-preserved c =
-    let later : ℕ = length (from (field_texts c.args.src.now c.args.n (values_of c.args.p)) (c.loop-i.i + 1)) in
-    let taken : ℕ = 1 + c.item_len-len.result in
-    let l : c.loop-i.left - taken ≡ c.loop-i.left - 1 - c.item_len-len.result = omega arith in
-    (omega arith, c.loop-i.invariant.1 ∙ rw (here (goal.at.loop-i-preserved c).After-item_len-len) (room_after_lem c.loop-i.left taken later (omega arith) ∙ ap (λ (n : ℕ). room_after n later) l))
+pub loop-field-preserved : goal.loop-field-preserved
+loop-field-preserved c =
+    let n = length-next 44 c.args.src.now c.args.fields.now c.loop-field.field-index (Number 0) c.loop-field-test.true in
+    let one = c.in_ok-checked_sub.ensures in
+    let more = c.in_ok-left.ensures in
+    omega (arith, c.loop-field.invariant, c.item_len.ensures)
 
 pub returns : goal.returns
 returns c =
-    let none = fields-end (values_of c.args.p) c.args.n c.requires c.args.src.now c.loop-i.i c.loop-i-test.false in
-    sym (c.loop-i.invariant.1 ∙ rw none (room_whole c.loop-i.left))
+    let none = separated-end 44 c.args.src.now c.args.fields.now c.loop-field.field-index c.loop-field-test.false in
+    let all = rw none at c.loop-field.invariant in
+    (omega arith, omega arith)

@@ -1,16 +1,11 @@
-use mathlib.Core.Path.{◌≡◌}
-use Prim.Native.Nat.{◌-◌, ◌≤◌}
-use lib.ListN.{length}
-use Rattle.at.specs.Parts.{values_of}
+use Rattle.std.proofs.Common.{◌≡◌, ◌+◌, length, drop}
 use Rattle.writer.specs.Line.{after_name}
-use Rattle.writer.specs.Steps.{field_texts, room_after}
-use Rattle.writer.proofs.FieldsLaws.{from}
+use Rattle.writer.specs.Steps.{texts}
+use Rattle.writer.proofs.FieldsLaws.{separated}
 use Rattle.writer.proofs.line.room_after_fields.Given as goal
 
--- `line::room_after_fields` meets its contract. The invariant: what is left of the room after the fields is what is left of `left` after those
--- from `i` on. Assumes nothing.
-abbrev pub invariant-loop-i : goal.invariant-loop-i
-invariant-loop-i l = (l.i ≤ l.n) × (room_after l.room (length (after_name (field_texts l.src l.n (values_of l.p)))) ≡ room_after l.left (length (from (field_texts l.src l.n (values_of l.p)) l.i)))
-
-abbrev pub decreases-loop-i : goal.decreases-loop-i
-decreases-loop-i l = l.n - l.i
+-- `line::room_after_fields` meets its contract. The invariant: `left` and all the fields together are as many bytes as `room` and the fields that are
+-- still to come. Assumes nothing.
+abbrev pub invariant-loop-field : goal.invariant-loop-field
+invariant-loop-field l =
+    l.left + length (after_name (texts l.src l.fields)) ≡ l.room + length (separated 44 (texts l.src (drop l.field-index l.fields)))

@@ -1,5 +1,0 @@
-use Rattle.writer.proofs.w36.write.Goals as goal
-
--- `w36::write` meets its contract: the event is written as its parts are. Assumes nothing.
-pub returns : goal.returns
-returns c = rw c.parts.ensures.whole at c.write_parts.ensures
