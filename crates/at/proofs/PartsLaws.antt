@@ -1,12 +1,15 @@
 -- Laws of an event in parts: one value, and that the parts of an event are one thing.
-use Prim.Native.Nat.{ℕ, zero, suc, ◌+◌, ◌≤◌}
+use Prim.Native.Nat.{ℕ, zero, suc, ◌+◌, ◌≤◌, ◌<◌}
 use mathlib.Core.Path.{◌≡◌, refl, sym, ap, ◌∙◌}
 use mathlib.Core.List.{List, [], ◌∷◌, ◌++◌, map, replicate}
 use mathlib.Core.Bool.{Bool, true, ◌&&◌}
 use native.Mathlib.Omega.{arith}
 use borrow.Author.Tests.{eqb-true, eqb-false}
 use lib.Dec.{eqb}
-use lib.ListN.{length, drop, length-map}
+use lib.ListN.{length, get_or, take, drop, set, length-map}
+use lib.Seq.{take_all}
+use native.Mathlib.Nat.{le_of_suc-le-suc, not-suc-le-zero}
+use native.Mathlib.Numerals.{add-one}
 use Rattle.text.proofs.Bools.{and_left, and_right}
 use Rattle.at.specs.Refusal.{good}
 use Rattle.at.specs.Event.{Row, Event, event}
@@ -34,9 +37,20 @@ filled (a ∷ b ∷ c ∷ d ∷ e ∷ f ∷ g ∷ []) h =
     rw (part_of_value a, part_of_value b, part_of_value c, part_of_value d, part_of_value e, part_of_value f, part_of_value g)
 filled (a ∷ b ∷ c ∷ d ∷ e ∷ f ∷ g ∷ v ∷ vs) h = absurd (omega arith)
 
-pub filled_parts : (row n : ℕ) (vs : List Value) → length vs ≡ n → n ≤ 7
-    → record { row = row; count = n; values = vs ++ drop n (replicate 7 (value.Number 0)) } ≡ parts_of row (map value_of vs)
-filled_parts row n vs l h = rw (← l, filled vs (rw l h), length-map)
+pub filled_parts : (row n : ℕ) (vs ws : List Value) → length vs ≡ n → n ≤ 7 → ws ≡ take n vs ++ drop n (replicate 7 (value.Number 0))
+    → record { row = row; count = n; values = ws } ≡ parts_of row (map value_of vs)
+filled_parts row n vs ws l h e =
+    let m : length vs ≤ n = omega (arith, l) in
+    rw (e, take_all n vs m, ← l, filled vs (rw l h), length-map)
+
+-- one value more in front of what fills up
+pub filled_more : (vs ws us : List Value) (i : ℕ) (d : Value) → i < length vs → i < length us → ws ≡ take i vs ++ drop i us
+    → set ws i (get_or vs i d) ≡ take (i + 1) vs ++ drop (i + 1) us
+filled_more [] ws us i d h l e = absurd (not-suc-le-zero h)
+filled_more (v ∷ vs) ws [] i d h l e = absurd (not-suc-le-zero l)
+filled_more (v ∷ vs) ws (u ∷ us) zero d h l e = rw e
+filled_more (v ∷ vs) ws (u ∷ us) (suc i) d h l e =
+    rw (e, add-one, filled_more vs (take i vs ++ drop i us) us i d (le_of_suc-le-suc h) (le_of_suc-le-suc l) refl, add-one)
 
 -- each row of a table is the first that has its name and its kinds, counted from a number on
 unfoldable pub firsts : List Row → ℕ → List Row → Bool

@@ -37,13 +37,16 @@ pub struct Parts {
 }
 
 impl Parts {
-    // The values that are not given are the number 0.
+    // The values that are not given are the number 0. A loop, since with `copy_from_slice` each array that is given has a place of its own on the
+    // stack, and an event is taken apart in a frame of 320 bytes in place of 72.
     pub(crate) fn new<const N: usize>(row: usize, given: [Value; N]) -> Self
         requires { N ≤ 7 }
         ensures { result ≡ parts_of row (map value_of given.entry) }
     {
         let mut values = [Value::Number(0); 7];
-        values[..N].copy_from_slice(&given);
+        for i in 0..N {
+            values[i] = given[i];
+        }
         Self {
             row,
             count: N,

@@ -1,14 +1,18 @@
-use mathlib.Core.Path.{◌≡◌, ◌∙◌, sym, ap}
+use mathlib.Core.Path.{◌≡◌}
 use mathlib.Core.List.{replicate}
+use native.Mathlib.Omega.{arith}
 use lib.ListN.{length}
-use lib.Seq.{length-take-le}
 use Rattle.at.specs.declared.parts.Value.TheVariants.{Number}
-use Rattle.at.proofs.PartsLaws.{filled_parts}
+use Rattle.at.proofs.PartsLaws.{filled_parts, filled_more}
 use Rattle.at.proofs.parts.Parts.new.Goals as goal
 
--- `parts::Parts::new` meets its contract: what is given stands in front of numbers 0. Assumes nothing.
+pub loop-i-preserved : goal.loop-i-preserved
+loop-i-preserved g c =
+    let l : length c.args.given ≡ g.row.N = omega (arith, c.well_formed) in
+    filled_more c.args.given c.loop-i.values (replicate 7 (Number 0)) c.loop-i.i (Number 0) (omega arith) (omega arith) c.loop-i.invariant
+
 pub returns : goal.returns
 returns g c =
-    let copied = c.copy_from_slice.ensures in
-    let n : length c.args.given ≡ g.row.N = sym (ap length copied.after) ∙ copied.len ∙ length-take-le g.row.N (replicate 7 (Number 0)) c.requires in
-    rw copied.after (filled_parts c.args.row g.row.N c.args.given n c.requires)
+    let l : length c.args.given ≡ g.row.N = omega (arith, c.well_formed) in
+    let e : c.loop-i.i ≡ g.row.N = omega arith in
+    filled_parts c.args.row g.row.N c.args.given c.loop-i.values l c.requires (rw e at c.loop-i.invariant)
