@@ -1,7 +1,6 @@
 pub mod FieldLaws
 pub mod LineLaws
 pub mod RowsLaws
-pub mod EntryLaws
 pub mod TypeLaws
 pub mod TakeLaws
 pub mod NameLaws

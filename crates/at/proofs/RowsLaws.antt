@@ -1,14 +1,14 @@
 -- Laws of the rows of one name: which they are, and how an event is read by them.
-use Prim.Native.Nat.{ℕ, zero, suc, ◌+◌, ◌≤◌, ◌<◌}
+use Prim.Native.Nat.{ℕ, zero, suc, ◌+◌}
 use mathlib.Core.Path.{◌≡◌, refl, sym, ap, ◌∙◌}
 use mathlib.Core.List.{List, [], ◌∷◌, ◌++◌}
 use mathlib.Core.Bool.{Bool, true, false, cond, ◌&&◌, false≢true}
-use native.Mathlib.Nat.{le_of_suc-le-suc, not-suc-le-zero}
 use native.Mathlib.Omega.{arith}
 use borrow.Author.Tests.{eqb-true, eqb-false, ne_eqb}
 use lib.Dec.{eqb}
-use lib.ListN.{length, take, drop, take-append-drop}
+use lib.ListN.{length, drop}
 use lib.Seq.{drop-drop}
+use Rattle.std.specs.Prelude.{Ok, Err}
 use Rattle.text.specs.Bytes.{same}
 use Rattle.text.specs.Field.{Field}
 use Rattle.text.proofs.BytesLaws.{same_equal}
@@ -17,11 +17,9 @@ use Rattle.at.specs.Refusal.{Refusal, no, missing, invalid, number_of, OrRefused
 use Rattle.at.specs.Event.{Row, name_of, Event, read_row}
 use Rattle.at.specs.Line.{rows_named, or_next, by_type, by_name}
 use Rattle.at.specs.Parts.{row_no}
-use Rattle.at.specs.Steps.{outcome_by, is_unsupported, read_found, read_peer}
+use Rattle.at.specs.Steps.{Stop, outcome_by, is_unsupported, read_found, read_peer}
 use Rattle.at.specs.W26.{table, UUDPC, UUDPC-BT}
-use Rattle.at.specs.declared.field.Stop.{Stop}
-use Rattle.at.specs.declared.field.Stop.TheVariants as stop
-use Rattle.at.specs.declared.field.Taken.{Taken}
+use Rattle.at.specs.declared.field.Field.{Field as Taken}
 
 -- what holds of each row of a list
 abbrev pub Each : (Row → Type 0) → List Row → Type 0
@@ -49,45 +47,6 @@ named_append (q ∷ rows) l name = go (same name (name_of q)) (named_append rows
         → cond k (q ∷ rows_named (rows ++ l) name) (rows_named (rows ++ l) name) ≡ cond k (q ∷ rows_named rows name) (rows_named rows name) ++ rows_named l name
     go true ih = ap (λ (t : List Row). q ∷ t) ih
     go false ih = ih
-
--- a table cut in two: a row of either half by its number in the whole
-pub row_in_front : (rows : List Row) (n i : ℕ) → i < n → row_no (take n rows) i ≡ row_no rows i
-unfolding row_no
-row_in_front rows zero i h = absurd (not-suc-le-zero h)
-row_in_front [] (suc n) i h = refl
-row_in_front (r ∷ rs) (suc n) zero h = refl
-row_in_front (r ∷ rs) (suc n) (suc i) h = row_in_front rs n i (le_of_suc-le-suc h)
-
-pub row-after : (rows : List Row) (n i : ℕ) → row_no (drop n rows) i ≡ row_no rows (n + i)
-unfolding row_no
-row-after rows zero i = let z : 0 + i ≡ i = omega arith in rw z
-row-after [] (suc n) i = refl
-row-after (r ∷ rs) (suc n) i = let z : suc n + i ≡ suc (n + i) = omega arith in rw z (row-after rs n i)
-
-rest_of_both : (rows : List Row) (k n : ℕ) → k ≤ n → drop k (take n rows) ++ drop n rows ≡ drop k rows
-rest_of_both rows zero n h = take-append-drop n rows
-rest_of_both rows (suc k) zero h = absurd (not-suc-le-zero h)
-rest_of_both [] (suc k) (suc n) h = refl
-rest_of_both (r ∷ rs) (suc k) (suc n) h = rest_of_both rs k n (le_of_suc-le-suc h)
-
--- the rows of a name, of which the first stands in the one half or in the other, or nowhere
-module _ (rows : List Row) (n : ℕ) (name : List ℕ) where
-  halves : rows_named rows name ≡ rows_named (take n rows) name ++ rows_named (drop n rows) name
-  halves = ap (λ (l : List Row). rows_named l name) (sym (take-append-drop n rows)) ∙ named_append (take n rows) (drop n rows) name
-
-  pub in_front : (i : ℕ) (r : Row) → i < n → rows_named (take n rows) name ≡ r ∷ rows_named (drop (suc i) (take n rows)) name
-      → rows_named rows name ≡ r ∷ rows_named (drop (suc i) rows) name
-  in_front i r h e =
-      halves ∙ rw e (ap (λ (l : List Row). r ∷ l) (sym (named_append (drop (suc i) (take n rows)) (drop n rows) name) ∙ ap (λ (l : List Row). rows_named l name) (rest_of_both rows (suc i) n h)))
-
-  pub after_front : (i : ℕ) (r : Row) → rows_named (take n rows) name ≡ [] → rows_named (drop n rows) name ≡ r ∷ rows_named (drop (suc i) (drop n rows)) name
-      → rows_named rows name ≡ r ∷ rows_named (drop (suc (n + i)) rows) name
-  after_front i r none e =
-      let z : n + suc i ≡ suc (n + i) = omega arith in
-      halves ∙ rw none (e ∙ rw (drop-drop (suc i) n rows, z))
-
-  pub in_neither : rows_named (take n rows) name ≡ [] → rows_named (drop n rows) name ≡ [] → rows_named rows name ≡ []
-  in_neither none e = halves ∙ rw (none, e)
 
 -- an event that is read by rows is read by one of them
 module _ (P : Row → Type 0) (fs : List Field) (e : Event) where
@@ -168,14 +127,14 @@ module _ (name : List ℕ) (i : ℕ) (r : Row) (fs : List Field) where
   lone_read rows d e f = alone rows e f (λ n. lone_after rows d i r e)
 
 -- what was taken for a row: a type that the row has not leaves the line to the next one, and all else is the row's own answer
-module _ (rows : List Row) (t : Taken) (next : OrRefused Event) where
-  left_to_next : (p : Stop) → is_unsupported p ≡ true → or_next (outcome_by rows t p) next ≡ next
-  left_to_next stop.Nowhere u = absurd (false≢true u)
-  left_to_next (stop.Refused e) u = rw u
+module _ (rows : List Row) (row : ℕ) (fs : List Taken) (next : OrRefused Event) where
+  left_to_next : (p : Stop) → is_unsupported p ≡ true → or_next (outcome_by rows row fs p) next ≡ next
+  left_to_next (Ok all) u = absurd (false≢true u)
+  left_to_next (Err e) u = rw u
 
-  not_left : (r : Row) → row_no rows t.row ≡ good r → (p : Stop) → is_unsupported p ≡ false → or_next (outcome_by rows t p) next ≡ outcome_by rows t p
-  not_left r found stop.Nowhere u = rw found
-  not_left r found (stop.Refused e) u = rw u
+  not_left : (r : Row) → row_no rows row ≡ good r → (p : Stop) → is_unsupported p ≡ false → or_next (outcome_by rows row fs p) next ≡ outcome_by rows row fs p
+  not_left r found (Ok all) u = rw found
+  not_left r found (Err e) u = rw u
 
 -- of W26, only the name of the first row stands twice
 pub twice_named : rows_named table (name_of UUDPC) ≡ UUDPC ∷ UUDPC-BT ∷ []
@@ -214,23 +173,23 @@ unfolding row_no table
 second_is = refl
 
 -- what was taken for a row is its answer, but for the first row of `+UUDPC`, which leaves to the second what has not its type
-module _ (i : ℕ) (fs : List Field) (t : Taken) (p : Stop) (e : outcome_by table t p ≡ read_found (row_no table i) fs) where
+module _ (i : ℕ) (gs : List Field) (fs : List Taken) (p : Stop) (e : outcome_by table i fs p ≡ read_found (row_no table i) gs) where
   abbrev next : OrRefused Event
-  next = by_type (UUDPC-BT ∷ []) fs
+  next = by_type (UUDPC-BT ∷ []) gs
 
-  first : eqb i 0 ≡ true → outcome_by table t p ≡ read_row UUDPC fs
+  first : eqb i 0 ≡ true → outcome_by table i fs p ≡ read_row UUDPC gs
   first z = e ∙ rw (eqb-true i 0 z, first-is)
 
-  pub not-left_read : t.row ≡ i → cond (eqb i 0) (is_unsupported p) false ≡ false → outcome_by table t p ≡ read_peer i fs
-  not-left_read r u = go (eqb i 0) refl u
+  pub not-left_read : cond (eqb i 0) (is_unsupported p) false ≡ false → outcome_by table i fs p ≡ read_peer i gs
+  not-left_read u = go (eqb i 0) refl u
     where
-      go : (k : Bool) → eqb i 0 ≡ k → cond k (is_unsupported p) false ≡ false → outcome_by table t p ≡ cond k (by_type (UUDPC ∷ UUDPC-BT ∷ []) fs) (read_found (row_no table i) fs)
-      go true z u = unfold by_type in rw (← first z) (sym (not_left table t next UUDPC (rw (r, eqb-true i 0 z) first-is) p u))
+      go : (k : Bool) → eqb i 0 ≡ k → cond k (is_unsupported p) false ≡ false → outcome_by table i fs p ≡ cond k (by_type (UUDPC ∷ UUDPC-BT ∷ []) gs) (read_found (row_no table i) gs)
+      go true z u = unfold by_type in rw (← first z) (sym (not_left table i fs next UUDPC (rw (eqb-true i 0 z) first-is) p u))
       go false z u = e
 
-  pub left_read : (second : OrRefused Event) → second ≡ read_found (row_no table 25) fs → cond (eqb i 0) (is_unsupported p) false ≡ true → second ≡ read_peer i fs
+  pub left_read : (second : OrRefused Event) → second ≡ read_found (row_no table 25) gs → cond (eqb i 0) (is_unsupported p) false ≡ true → second ≡ read_peer i gs
   left_read second s u = go (eqb i 0) refl u
     where
-      go : (k : Bool) → eqb i 0 ≡ k → cond k (is_unsupported p) false ≡ true → second ≡ cond k (by_type (UUDPC ∷ UUDPC-BT ∷ []) fs) (read_found (row_no table i) fs)
-      go true z u = unfold by_type in rw (← first z) (s ∙ rw second_is (sym (alone_decides UUDPC-BT fs)) ∙ sym (left_to_next table t next p u))
+      go : (k : Bool) → eqb i 0 ≡ k → cond k (is_unsupported p) false ≡ true → second ≡ cond k (by_type (UUDPC ∷ UUDPC-BT ∷ []) gs) (read_found (row_no table i) gs)
+      go true z u = unfold by_type in rw (← first z) (s ∙ rw second_is (sym (alone_decides UUDPC-BT gs)) ∙ sym (left_to_next table i fs next p u))
       go false z u = absurd (false≢true u)

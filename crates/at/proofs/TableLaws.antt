@@ -3,13 +3,13 @@ use Prim.Native.Nat.{ℕ, zero, suc, ◌+◌, ◌*◌, ◌≤◌, ◌<◌}
 use mathlib.Core.Path.{◌≡◌, refl, sym, ap, ◌∙◌}
 use mathlib.Core.List.{List, [], ◌∷◌, ◌++◌, append_assoc}
 use mathlib.Core.Bool.{true, ◌&&◌}
-use native.Mathlib.Nat.{add-suc, le_of_suc-le-suc, not-suc-le-zero}
-use native.Mathlib.Numerals.{add-one}
+use native.Mathlib.Nat.{le_of_suc-le-suc, not-suc-le-zero}
 use native.Mathlib.Omega.{arith}
 use borrow.Author.Tests.{eqb-false, leb-true}
 use lib.Dec.{leb}
 use lib.ListN.{length, get_or, take, drop, length-append, get_or-eq_default}
-use lib.Seq.{drop-cons, drop-drop, drop-nil, get_or-drop, take_at, drop_at, take-take, take-append-le, take-append_seam, length-take-le}
+use lib.Seq.{drop-drop, drop-nil, get_or-drop, take_at, drop_at, take-take, take-append-le, take-append_seam, length-take-le}
+use Rattle.std.specs.Prelude.{Ok, Err}
 use Rattle.text.specs.Bytes.{bytes, same, part}
 use Rattle.text.specs.Field.{Field as Part}
 use Rattle.text.proofs.Bools.{and_left, and_right}
@@ -18,10 +18,8 @@ use Rattle.at.specs.Refusal.{no, OrRefused, good, refused, refusal_of}
 use Rattle.at.specs.Table.{letters_of, filled, spelled_row, spelled, name_at, letters_at}
 use Rattle.at.specs.Parts.{row_no}
 use Rattle.at.specs.TableSteps.{roomy, Tabled}
-use Rattle.at.specs.Steps.{kinds_in, kinds_of, Legible, letters_in, Lettered, values_of, fields_in, Took, outcome_by, read_found}
-use Rattle.at.specs.declared.table.Entry.{Entry}
-use Rattle.at.specs.declared.field.Stop.{Stop}
-use Rattle.at.specs.declared.field.Stop.TheVariants as stop
+use Rattle.at.specs.Steps.{kinds_in, Legible, letters_in, values_of, Stop, Took, outcome_by, read_found}
+use Rattle.at.specs.declared.field.Field.{Field}
 
 -- a text that is filled up
 filled-length : (n : ℕ) (s : List ℕ) → n ≤ 11 → length (filled n s) ≡ n
@@ -65,6 +63,12 @@ unfolding row_no
 row_listed [] i h = absurd (not-suc-le-zero h)
 row_listed (r ∷ rs) zero h = (r, refl, refl)
 row_listed (r ∷ rs) (suc i) h = row_listed rs i (le_of_suc-le-suc h)
+
+pub row_inside : (rows : List Row) (i : ℕ) (r : Row) → row_no rows i ≡ good r → i < length rows
+unfolding row_no
+row_inside [] i r e = let z : ◌≡◌ {A = ℕ} 0 1 = cc in absurd (eqb-false 0 1 refl z)
+row_inside (q ∷ rs) zero r e = omega arith
+row_inside (q ∷ rs) (suc i) r e = omega (arith, row_inside rs i r e)
 
 -- a number from k on that is none of the next n, as the last arm of a `match` has it, is k + n or more
 abbrev pub NoneOf : ℕ → ℕ → ℕ → Type 0
@@ -141,11 +145,6 @@ stands rows s i t h =
 pub letters_taken : (r : Row) → length (letters_of r) ≤ 7 → take (length (letters_of r)) (filled 7 (letters_of r)) ≡ letters_of r
 letters_taken r h = filled_front 7 (letters_of r) h
 
-pub letters_first : (r : Row) (more : List ℕ) → length (letters_of r) ≤ 7 → take (length (letters_of r)) (filled 7 (letters_of r) ++ more) ≡ letters_of r
-letters_first r more h =
-    let l : length (letters_of r) ≤ length (filled 7 (letters_of r)) = omega (arith, filled-length 7 (letters_of r) (omega arith), h) in
-    take-append-le (length (letters_of r)) (filled 7 (letters_of r)) more l ∙ letters_taken r h
-
 -- the name and the letters that are handed out are the row's
 pub row_texts : (rows : List Row) (s : List ℕ) (i : ℕ) → Tabled rows s → i < length rows → (r : Row) × (row_no rows i ≡ good r) × (name_at s i ≡ name_of r) × (letters_at s i ≡ letters_of r)
 unfolding part
@@ -156,6 +155,12 @@ row_texts rows s i t h =
     let seven = sym (take-take (length (letters_of r)) 7 (drop (i * 20 + 13) s) st.letter_room) in
     (r, q.1, rw st.name_length st.name, rw (st.letter_count, seven, st.letters) (letters_taken r st.letter_room))
 
+-- the letters of a row, by its number: they are few
+pub few_letters : (rows : List Row) (row : ℕ) → roomy rows ≡ true → row < length rows → length (letters_in (row_no rows row)) ≤ 7
+few_letters rows row t h =
+    let q = row_listed rows row h in
+    rw q.1 (rooms rows row q.0 t q.1).1
+
 -- a name that is held against the row's
 pub held : (s name : List ℕ) (i : ℕ) (r : Row) (at len : ℕ) → Stands s i r → at ≡ i * 20 → len ≡ length (name_of r) → same name (part s (at + 2) len) ≡ same name (name_of r)
 held s name i r at len st a l = rw (a, l, st.name)
@@ -164,17 +169,6 @@ held s name i r at len st a l = rw (a, l, st.name)
 pub none_past : (s : List ℕ) (k p : ℕ) → length s ≤ k → part s 0 0 ≡ part s p (get_or s k 0)
 unfolding part
 none_past s k p h = rw (get_or-eq_default s 0 {n = k} h)
-
--- seven bytes, one by one
-module _ (s : List ℕ) (k : ℕ) (h : k + 7 ≤ length s) where
-  byte_on : (j : ℕ) → k + j < length s → drop (k + j) s ≡ get_or s (k + j) 0 ∷ drop (k + suc j) s
-  byte_on j b = drop-cons s (k + j) 0 b ∙ rw (← add-suc k j)
-
-  pub seven : get_or s k 0 ∷ get_or s (k + 1) 0 ∷ get_or s (k + 2) 0 ∷ get_or s (k + 3) 0 ∷ get_or s (k + 4) 0 ∷ get_or s (k + 5) 0 ∷ get_or s (k + 6) 0 ∷ [] ≡ take 7 (drop k s)
-  seven =
-      let a : k < length s = omega arith in
-      let first : drop k s ≡ get_or s k 0 ∷ drop (k + 1) s = drop-cons s k 0 a ∙ rw (add-one k) in
-      sym (rw (first, byte_on 1 (omega arith), byte_on 2 (omega arith), byte_on 3 (omega arith), byte_on 4 (omega arith), byte_on 5 (omega arith), byte_on 6 (omega arith)))
 
 pub cons_inj : {A : Type 0} {x y : A} {xs ys : List A} → x ∷ xs ≡ y ∷ ys → (x ≡ y) × (xs ≡ ys)
 cons_inj e = (cc, cc)
@@ -186,21 +180,21 @@ legible-row (q ∷ rs) zero r l e = let f : q ≡ r = cc in rw f at (cons_inj l)
 legible-row (q ∷ rs) (suc i) r l e = legible-row rs i r (cons_inj l).1 e
 
 -- the event of a row, from what was taken for it
-took-outcome : (rows : List Row) (row : ℕ) (q : Row) (r : OrRefused Read) (ns : List ℕ) (p : Stop) → row_no rows row ≡ good q → Took (row_kinds q) r ns p
-    → outcome_by rows (record { row = row; fields = fields_in ns }) p ≡ with_values q r
-took-outcome rows row q r ns p e k = go p r k
+took-outcome : (rows : List Row) (row : ℕ) (q : Row) (r : OrRefused Read) (fs : List Field) (p : Stop) → row_no rows row ≡ good q → Took (row_kinds q) r fs p
+    → outcome_by rows row fs p ≡ with_values q r
+took-outcome rows row q r fs p e k = go p r k
   where
-    go : (p : Stop) (r : OrRefused Read) → Took (row_kinds q) r ns p → outcome_by rows (record { row = row; fields = fields_in ns }) p ≡ with_values q r
-    go stop.Nowhere (good (values vs fs)) s = let v : values_of (row_kinds q) 0 (fields_in ns) ≡ vs = cc in rw (e, v)
-    go stop.Nowhere (refused n) s = let z : ◌≡◌ {A = ℕ} 0 1 = cc in absurd (eqb-false 0 1 refl z)
-    go (stop.Refused x) (good (values vs fs)) s = let z : ◌≡◌ {A = ℕ} 0 1 = cc in absurd (eqb-false 0 1 refl z)
-    go (stop.Refused x) (refused n) s = let m : refusal_of x ≡ n = cc in rw m
+    go : (p : Stop) (r : OrRefused Read) → Took (row_kinds q) r fs p → outcome_by rows row fs p ≡ with_values q r
+    go (Ok all) (good (values vs gs)) s = let v : values_of (row_kinds q) 0 fs ≡ vs = cc in rw (e, v)
+    go (Ok all) (refused n) s = let z : ◌≡◌ {A = ℕ} 0 1 = cc in absurd (eqb-false 0 1 refl z)
+    go (Err x) (good (values vs gs)) s = let z : ◌≡◌ {A = ℕ} 0 1 = cc in absurd (eqb-false 0 1 refl z)
+    go (Err x) (refused n) s = let m : refusal_of x ≡ n = cc in rw m
 
 -- the fields taken by the letters of a row are those that the definition reads
-pub outcome_read : (rows : List Row) (e : Entry) (fs : List Part) (ns : List ℕ) (p : Stop) → e.row < length rows → Legible rows → Lettered rows e
-    → Took (kinds_of e.kinds) (take_kinds 1 (kinds_of e.kinds) fs) ns p → outcome_by rows (record { row = e.row; fields = fields_in ns }) p ≡ read_found (row_no rows e.row) fs
+pub outcome_read : (rows : List Row) (row : ℕ) (cs : List ℕ) (gs : List Part) (fs : List Field) (p : Stop) → row < length rows → Legible rows
+    → cs ≡ letters_in (row_no rows row) → Took (kinds_in cs) (take_kinds 1 (kinds_in cs) gs) fs p → outcome_by rows row fs p ≡ read_found (row_no rows row) gs
 unfolding read_row
-outcome_read rows e fs ns p h l m took =
-    let q = row_listed rows e.row h in
-    let c : kinds_of e.kinds ≡ row_kinds q.0 = ap kinds_in (m.1 ∙ ap letters_in q.1) ∙ legible-row rows e.row q.0 l q.1 in
-    took-outcome rows e.row q.0 (take_kinds 1 (row_kinds q.0) fs) ns p q.1 (rw c at took) ∙ rw q.1
+outcome_read rows row cs gs fs p h l m took =
+    let q = row_listed rows row h in
+    let c : kinds_in cs ≡ row_kinds q.0 = ap kinds_in (m ∙ ap letters_in q.1) ∙ legible-row rows row q.0 l q.1 in
+    took-outcome rows row q.0 (take_kinds 1 (row_kinds q.0) gs) fs p q.1 (rw c at took) ∙ rw q.1

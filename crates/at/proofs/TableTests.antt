@@ -4,7 +4,10 @@ use mathlib.Core.Path.{◌≡◌, refl}
 use mathlib.Core.Bool.{true}
 use lib.ListN.{length, take, drop}
 use Rattle.text.specs.Bytes.{same}
-use Rattle.at.specs.TableSteps.{roomy}
+use Rattle.at.specs.Table.{spelled}
+use Rattle.at.specs.TableSteps.{roomy, Tabled}
+use Rattle.at.specs.declared.w26_table.TheConstants as of26
+use Rattle.at.specs.declared.w36_table.TheConstants as of36
 use Rattle.at.specs.Steps.{kind_of, Legible}
 use Rattle.at.specs.W26 as w26
 use Rattle.at.specs.W36 as w36
@@ -56,3 +59,12 @@ firsts_w26 = refl
 pub firsts_w36 : firsts w36.rows36 0 w36.rows36 ≡ true
 unfolding firsts number_in same w36.table w36.binary_table w36.rows36
 firsts_w36 = refl
+
+-- the bytes of the code are those of each table; of W36, the first 260 are those of its rows of text
+pub bytes-w26 : Tabled w26.table of26.TABLE
+unfolding spelled w26.table
+bytes-w26 = record { spells = refl; rooms = roomy-w26.0 }
+
+pub bytes-w36 : Tabled w36.table (take 260 of36.TABLE)
+unfolding spelled w36.table
+bytes-w36 = record { spells = refl; rooms = roomy-w36.0 }

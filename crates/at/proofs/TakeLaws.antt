@@ -1,11 +1,11 @@
--- Laws of the loop that takes a row's fields: the values that stand in its numbers, and what is left to take.
-use Prim.Native.Nat.{ℕ, zero, suc, ◌+◌, ◌*◌, ◌%◌, ◌^◌, ◌≤◌, ◌<◌}
+-- Laws of the loop that takes a row's fields: the values of those that were taken, and what is left to take.
+use Prim.Native.Nat.{ℕ, zero, suc, ◌+◌, ◌%◌, ◌^◌, ◌≤◌, ◌<◌}
 use mathlib.Core.Path.{◌≡◌, refl, sym, ap}
 use mathlib.Core.List.{List, [], ◌∷◌, ◌++◌}
 use native.Mathlib.Nat.{mod-eq_of_lt, add-zero, le_of_suc-le-suc, not-suc-le-zero}
 use native.Mathlib.Numerals.{add-one}
 use native.Mathlib.Omega.{arith}
-use lib.ListN.{length, get_or, take, drop, set, length-set, drop_of_length-le}
+use lib.ListN.{length, get_or, take, drop, set, drop_of_length-le}
 use lib.Seq.{drop-cons, take_all, get_or-set_same, get_or-set_other}
 use Rattle.std.specs.Prelude.{Some, None}
 use Rattle.text.specs.Bytes.{part}
@@ -15,7 +15,7 @@ use Rattle.text.specs.declared.field.Fields.{Fields}
 use Rattle.text.specs.declared.field.Next.{Next}
 use Rattle.at.specs.Refusal.{Refusal, missing, OrRefused, good, refused}
 use Rattle.at.specs.Event.{Value, read_field, Read, values, prepend, take_kinds}
-use Rattle.at.specs.Steps.{kind_of, kinds_in, no_field, value_of, values_of, without_rest, field_in, fields_from, fields_in}
+use Rattle.at.specs.Steps.{kind_of, kinds_in, no_field, value_of, values_of, without_rest}
 use Rattle.at.specs.declared.field.Field.{Field}
 use Rattle.at.proofs.FieldLaws.{no-field, some-field}
 
@@ -86,48 +86,3 @@ pub all_taken : (ks : List ℕ) (i : ℕ) (fs : List Field) (ps : List Part) →
     → without_rest (ahead (values_of (kinds_in (take i ks)) 0 fs) (take_kinds (suc i) (kinds_in (drop i ks)) ps)) ≡ good (values (values_of (kinds_in ks) 0 fs) [])
 unfolding take_kinds
 all_taken ks i fs ps h = rw (take_all i ks h, drop_of_length-le ks h, ahead_values (values_of (kinds_in ks) 0 fs) ps)
-
--- a field that is stored in two numbers is the one at its place, and no other changes
-module _ (ns : List ℕ) (i value len : ℕ) (h : 2 * i + 1 < length ns) where
-  abbrev stored : List ℕ
-  stored = set (set ns (2 * i) value) (2 * i + 1) len
-
-  stored_here : field_in stored i ≡ record { value = value; len = len }
-  stored_here =
-      let o : 2 * i ≡ 2 * i + 1 → ⊥ = λ e. omega arith in
-      let l : 2 * i < length ns = omega arith in
-      let m : 2 * i + 1 < length (set ns (2 * i) value) = rw length-set h in
-      rw (get_or-set_other (set ns (2 * i) value) (2 * i + 1) (2 * i) len 0 o, get_or-set_same ns (2 * i) value 0 l, get_or-set_same (set ns (2 * i) value) (2 * i + 1) len 0 m)
-
-  stored_other : (j : ℕ) → (j ≡ i → ⊥) → field_in stored j ≡ field_in ns j
-  stored_other j o =
-      let a : 2 * j ≡ 2 * i + 1 → ⊥ = λ e. omega arith in
-      let b : 2 * j ≡ 2 * i → ⊥ = λ e. o (omega arith) in
-      let c : 2 * j + 1 ≡ 2 * i + 1 → ⊥ = λ e. o (omega arith) in
-      let d : 2 * j + 1 ≡ 2 * i → ⊥ = λ e. omega arith in
-      rw (
-        get_or-set_other (set ns (2 * i) value) (2 * i + 1) (2 * j) len 0 a,
-        get_or-set_other ns (2 * i) (2 * j) value 0 b,
-        get_or-set_other (set ns (2 * i) value) (2 * i + 1) (2 * j + 1) len 0 c,
-        get_or-set_other ns (2 * i) (2 * j + 1) value 0 d,
-      )
-
-  stored_later : (n k : ℕ) → i < k → fields_from n k stored ≡ fields_from n k ns
-  unfolding fields_from
-  stored_later zero k l = refl
-  stored_later (suc n) k l = rw (stored_other k (λ e. omega arith), stored_later n (suc k) (omega arith))
-
-  stored_from : (n k j : ℕ) → i ≡ k + j → j < n → fields_from n k stored ≡ set (fields_from n k ns) j (record { value = value; len = len })
-  unfolding fields_from
-  stored_from zero k j e l = absurd (not-suc-le-zero l)
-  stored_from (suc n) k zero e l =
-      let m : k ≡ i = omega arith in
-      rw (m, stored_here, stored_later n (suc i) (omega arith))
-  stored_from (suc n) k (suc j) e l = rw (stored_other k (λ q. omega arith), stored_from n (suc k) j (omega arith) (le_of_suc-le-suc l))
-
-  pub field_stored : i < 7 → fields_in stored ≡ set (fields_in ns) i (record { value = value; len = len })
-  field_stored l = stored_from 7 0 i (omega arith) l
-
-pub seven-fields : (ns : List ℕ) → length (fields_in ns) ≡ 7
-unfolding fields_from
-seven-fields ns = refl

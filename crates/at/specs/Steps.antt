@@ -1,5 +1,5 @@
 -- What the private answers of the code say in the definitions' terms. No promise of a public function cites this file.
-use Rattle.std.specs.Prelude.{ℕ, zero, suc, ◌+◌, ◌*◌, ◌%◌, ◌^◌, ◌≤◌, ◌<◌, ◌≡◌, List, [], ◌∷◌, Result, Ok, Err, map, Bool, false, cond, eqb, length, take, drop, get_or}
+use Rattle.std.specs.Prelude.{ℕ, suc, ◌%◌, ◌^◌, ◌≡◌, List, [], ◌∷◌, Option, Some, None, Result, Ok, Err, map, Bool, false, cond, eqb, take, drop, get_or}
 use Prim.Native.Char.{code}
 use Rattle.at.specs.Refusal.{Refusal, no, invalid, OrRefused, good, refused, refusal_of, refusal_no, answered}
 use Rattle.text.specs.Field.{Field as Part}
@@ -16,10 +16,6 @@ use Rattle.at.specs.declared.binary.Address.{Address}
 use Rattle.at.specs.declared.field.Field.{Field}
 use Rattle.at.specs.declared.field.Fault.{Fault}
 use Rattle.at.specs.declared.field.Fault.TheVariants.{Unsupported, Invalid}
-use Rattle.at.specs.declared.table.Entry.{Entry}
-use Rattle.at.specs.declared.table.Kinds.{Kinds}
-use Rattle.at.specs.declared.field.Stop as stop
-use Rattle.at.specs.declared.field.Taken.{Taken}
 use Rattle.at.specs.declared.line.Body as line
 use Rattle.at.specs.declared.w26.PeerConnectedProfile.{PeerConnectedProfile}
 use Rattle.at.specs.declared.w26.PeerConnectedProfile.TheVariants as profile
@@ -69,24 +65,16 @@ abbrev pub without_rest : OrRefused Read → OrRefused Read
 without_rest (good (values vs fs)) = good (values vs [])
 without_rest (refused n) = refused n
 
-abbrev pub stopped : List Value → stop.Stop → OrRefused Read
-stopped vs stop.TheVariants.Nowhere = good (values vs [])
-stopped vs (stop.TheVariants.Refused e) = refused (refusal_of e)
+-- whether a row's fields were all taken, or what stopped it
+abbrev pub Stop : Type 0
+Stop = Result (Unit {0}) AtPacketError
 
--- the fields that numbers hold, two for each
-abbrev pub field_in : List ℕ → ℕ → Field
-field_in ns i = record { value = get_or ns (2 * i) 0; len = get_or ns (2 * i + 1) 0 }
+abbrev pub stopped : List Value → Stop → OrRefused Read
+stopped vs p = answered (λ all. values vs []) p
 
-unfoldable pub fields_from : ℕ → ℕ → List ℕ → List Field
-fields_from zero i ns = []
-fields_from (suc n) i ns = field_in ns i ∷ fields_from n (suc i) ns
-
-abbrev pub fields_in : List ℕ → List Field
-fields_in ns = fields_from 7 0 ns
-
--- the numbers and the stop of a row whose fields are read so
-abbrev pub Took : List Kind → OrRefused Read → List ℕ → stop.Stop → Type 0
-Took ks r ns p = stopped (values_of ks 0 (fields_in ns)) p ≡ without_rest r
+-- the fields and the stop of a row whose fields are read so
+abbrev pub Took : List Kind → OrRefused Read → List Field → Stop → Type 0
+Took ks r fs p = stopped (values_of ks 0 fs) p ≡ without_rest r
 
 -- the framing of a line of s
 abbrev pub framed_of : List ℕ → Result line.Body AtPacketError → OrRefused Body
@@ -114,13 +102,6 @@ kind_of c =
 abbrev pub kinds_in : List ℕ → List Kind
 kinds_in cs = map kind_of cs
 
-abbrev pub kinds_of : Kinds → List Kind
-kinds_of k = kinds_in (take k.count k.letters)
-
-pub record Held (k : Kinds) : Type 0 where
-  pub room : length k.letters ≡ 8
-  pub few : k.count ≤ 7
-
 -- the letters of a table say its kinds
 abbrev pub Legible : List Row → Type 0
 Legible rows = map (λ r. kinds_in (letters_of r)) rows ≡ map row_kinds rows
@@ -129,42 +110,28 @@ Legible rows = map (λ r. kinds_in (letters_of r)) rows ≡ map row_kinds rows
 abbrev pub SomeTable : List ℕ → Type 0
 SomeTable s = (rows : List Row) × Tabled rows s
 
--- the first row with a name, by its number, and the rows with that name after it; the number of all rows where none has it
-pub record Finds (rows : List Row) (name : List ℕ) (i : ℕ) : Type 0 where
-  pub few : i ≤ length rows
-  pub found : i < length rows → (r : Row) × (row_no rows i ≡ good r) × (rows_named rows name ≡ r ∷ rows_named (drop (suc i) rows) name)
-  pub nowhere : length rows ≤ i → rows_named rows name ≡ []
+-- the first row with a name, by its number, and the rows with that name after it; or no row has it
+abbrev pub Finds : List Row → List ℕ → Option ℕ → Type 0
+Finds rows name (Some i) = (r : Row) × (row_no rows i ≡ good r) × (rows_named rows name ≡ r ∷ rows_named (drop (suc i) rows) name)
+Finds rows name None = rows_named rows name ≡ []
 
 -- the letters of a row, and none where there is no row
 abbrev pub letters_in : OrRefused Row → List ℕ
 letters_in (good r) = letters_of r
 letters_in (refused n) = []
 
--- a row, by its number, with its letters; and that it is the row of a name
-abbrev pub Lettered : List Row → Entry → Type 0
-Lettered rows e = Held e.kinds × (take e.kinds.count e.kinds.letters ≡ letters_in (row_no rows e.row))
-
-abbrev pub Enters : List Row → List ℕ → Entry → Type 0
-Enters rows name e = Finds rows name e.row × Lettered rows e
-
 -- the event that was read, by the table's row and its fields
 abbrev pub with_fields : OrRefused Row → List Field → OrRefused Event
 with_fields (good r) fs = good (event r (values_of (row_kinds r) 0 fs))
 with_fields (refused n) fs = refused n
 
-abbrev pub event_by : List Row → Taken → OrRefused Event
-event_by rows t = with_fields (row_no rows t.row) t.fields
+abbrev pub outcome_by : List Row → ℕ → List Field → Stop → OrRefused Event
+outcome_by rows row fs (Ok all) = with_fields (row_no rows row) fs
+outcome_by rows row fs (Err e) = refused (refusal_of e)
 
-abbrev pub or_stopped : OrRefused Event → stop.Stop → OrRefused Event
-or_stopped o stop.TheVariants.Nowhere = o
-or_stopped o (stop.TheVariants.Refused e) = refused (refusal_of e)
-
-abbrev pub outcome_by : List Row → Taken → stop.Stop → OrRefused Event
-outcome_by rows t p = or_stopped (event_by rows t) p
-
-abbrev pub is_unsupported : stop.Stop → Bool
-is_unsupported stop.TheVariants.Nowhere = false
-is_unsupported (stop.TheVariants.Refused e) = eqb (refusal_no e) 13
+abbrev pub is_unsupported : Stop → Bool
+is_unsupported (Ok all) = false
+is_unsupported (Err e) = eqb (refusal_no e) 13
 
 -- the event of a row that was found; of the first row of `+UUDPC`, with the second after it
 abbrev pub read_found : OrRefused Row → List Part → OrRefused Event

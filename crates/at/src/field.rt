@@ -1,16 +1,15 @@
 // The fields of an event, taken from a walk one after the other by the letters of their kinds: each is first there, then of its form. `b` is a
 // number of 8 bits, `w` of 16, `l` of 32, `i` the type of an IP peer, `t` of a Bluetooth peer, `p` a protocol, `r` a reason, and any other letter a
 // text.
-ghost use Rattle.std.specs.Prelude.{◌≡◌, ℕ, ◌+◌, ◌<◌, length};
+ghost use Rattle.std.specs.Prelude.{◌≡◌, ℕ, ◌+◌, ◌%◌, ◌^◌, ◌<◌, ◌≤◌, length};
 ghost use Rattle.text.specs.FieldSteps.{left};
 ghost use Rattle.at.specs.Event.{read_field, take_kinds, bits, ip_type, bt_type, protocol, reason};
 ghost use Rattle.at.specs.Refusal.{refusal_of};
 ghost use Rattle.at.specs.declared.FieldError.TheVariants.{NoNumber};
 ghost use Rattle.at.specs.declared.field.Fault.TheVariants.{Invalid};
-ghost use Rattle.at.specs.Steps.{kind_of, kinds_of, Held, field_in, fields_in, fault_of, one_of, Took};
+ghost use Rattle.at.specs.Steps.{kind_of, kinds_in, text_of, fault_of, one_of, Took};
 
-use crate::table::Kinds;
-use crate::{AtPacketError, FieldError};
+use crate::{AtPacketError, FieldError, Text};
 use text::bytes::{part, same};
 use text::field::Fields;
 use text::number::{NumberError, Width, read};
@@ -21,6 +20,41 @@ use text::walk::field_at;
 pub(crate) struct Field {
     pub value: usize,
     pub len: usize,
+}
+
+impl Field {
+    // Fields of which none is taken yet. No row has more than seven.
+    pub(crate) fn none() -> [Self; 7] {
+        [Self { value: 0, len: 0 }; 7]
+    }
+
+    // The number of each width, where the field was read as one of that width.
+    pub(crate) fn byte(self) -> u8
+        ensures { result ≡ self.value % 2 ^ 8 }
+    {
+        (self.value % 256) as u8
+    }
+
+    pub(crate) fn word(self) -> u16
+        ensures { result ≡ self.value % 2 ^ 16 }
+    {
+        (self.value % 65536) as u16
+    }
+
+    pub(crate) fn long(self) -> u32
+        ensures { result ≡ self.value % 2 ^ 32 }
+    {
+        (self.value % 4294967296) as u32
+    }
+
+    pub(crate) fn text(self) -> Text
+        ensures { result ≡ text_of self }
+    {
+        Text {
+            start: self.value,
+            len: self.len,
+        }
+    }
 }
 
 // Why one field is refused, whichever field it is.
@@ -150,13 +184,6 @@ fn field_of(kind: u8, start: usize, field: &[u8]) -> Result<Field, Fault>
     }
 }
 
-// Whether a row's fields were all taken, or what stopped it.
-#[derive(Clone, Copy)]
-pub(crate) enum Stop {
-    Nowhere,
-    Refused(AtPacketError),
-}
-
 // The number of the field after the first `i`, of which there are at most seven.
 fn counted(i: usize) -> u8
     requires { i < 7 }
@@ -165,64 +192,27 @@ fn counted(i: usize) -> u8
     (i + 1) as u8
 }
 
-// A row and its fields, in their order.
-#[derive(Clone, Copy)]
-pub(crate) struct Taken {
-    pub row: usize,
-    pub fields: [Field; 7],
-}
-
-fn field_in(numbers: &[usize], i: usize) -> Field
-    requires { (i < 7) × (length numbers.now ≡ 14) }
-    ensures { result ≡ field_in numbers.now i }
+// The fields of a row by the letters of its kinds, left to right. They are lent, so that they lie on the stack once.
+pub(crate) fn take_fields(
+    fields: &mut [Field; 7],
+    kinds: &[u8],
+    s: &[u8],
+    w: Fields,
+) -> Result<(), AtPacketError>
+    requires { length kinds.now ≤ 7 }
+    ensures { Took (kinds_in kinds.now) (take_kinds 1 (kinds_in kinds.now) (left s.now w)) fields.new result }
 {
-    Field {
-        value: numbers[2 * i],
-        len: numbers[2 * i + 1],
-    }
-}
-
-// A row with the fields that `take_fields` took for it.
-pub(crate) fn taken_for(row: usize, numbers: &[usize]) -> Taken
-    requires { length numbers.now ≡ 14 }
-    ensures { result ≡ record { row = row; fields = fields_in numbers.now } }
-{
-    let fields = [
-        field_in(numbers, 0),
-        field_in(numbers, 1),
-        field_in(numbers, 2),
-        field_in(numbers, 3),
-        field_in(numbers, 4),
-        field_in(numbers, 5),
-        field_in(numbers, 6),
-    ];
-    Taken { row, fields }
-}
-
-// The fields of a row by the letters of its kinds, left to right, two numbers for each. They are lent, so that they lie on the stack once.
-pub(crate) fn take_fields(numbers: &mut [usize], kinds: Kinds, s: &[u8], w: Fields) -> Stop
-    requires { Held kinds × (length numbers.old ≡ 14) }
-    ensures { Took (kinds_of kinds) (take_kinds 1 (kinds_of kinds) (left s.now w)) numbers.new result }
-{
-    let letters = kinds.letters;
-    let count = kinds.count;
     let mut at = w.at;
-    let mut i = 0;
-    while i < count {
+    for i in 0..kinds.len() {
         let Some(next) = field_at(s, at) else {
             let field = counted(i);
-            return Stop::Refused(AtPacketError::TypeDecodeParameterMissing { field });
+            return Err(AtPacketError::TypeDecodeParameterMissing { field });
         };
-        match field_of(letters[i], next.start, part(s, next.start, next.len)) {
-            Ok(field) => {
-                let k = 2 * i;
-                numbers[k] = field.value;
-                numbers[k + 1] = field.len;
-            }
-            Err(fault) => return Stop::Refused(fault.of_field(counted(i))),
+        match field_of(kinds[i], next.start, part(s, next.start, next.len)) {
+            Ok(field) => fields[i] = field,
+            Err(fault) => return Err(fault.of_field(counted(i))),
         }
         at = next.rest.at;
-        i += 1;
     }
-    Stop::Nowhere
+    Ok(())
 }

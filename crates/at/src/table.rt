@@ -1,20 +1,13 @@
 // A table of events in bytes. A row has twenty: the length of its name, the number of its fields, eleven for the name and seven for a letter a
 // field, both filled up with spaces.
-ghost use Rattle.std.specs.Prelude.{List, ◌≡◌, ◌<◌, ◌≤◌, ◌+◌, ◌^◌, length, take};
+ghost use Rattle.std.specs.Prelude.{List, ◌≡◌, ◌≤◌, ◌+◌, length};
 ghost use Rattle.text.specs.Bytes.{same as sameBytes, part as part_of};
 ghost use Rattle.at.specs.Event.{Row};
 ghost use Rattle.at.specs.Table.{name_at, letters_at};
-ghost use Rattle.at.specs.Parts.{row_no};
 ghost use Rattle.at.specs.TableSteps.{Tabled};
-ghost use Rattle.at.specs.Steps.{SomeTable, Finds, Held, Enters, letters_in};
+ghost use Rattle.at.specs.Steps.{SomeTable, Finds};
 
 use text::bytes::part;
-
-fn wide(x: u8) -> usize
-    ensures { (result ≡ x) × (result < 256) }
-{
-    x as usize
-}
 
 // The name of the row with a number, counted from 0; empty where there is no such row.
 pub fn name_at(table: &[u8], row: usize) -> &[u8]
@@ -25,7 +18,7 @@ pub fn name_at(table: &[u8], row: usize) -> &[u8]
     }
     let at = row * 20;
     if at < table.len() {
-        part(table, at + 2, wide(table[at]))
+        part(table, at + 2, usize::from(table[at]))
     } else {
         part(table, 0, 0)
     }
@@ -40,7 +33,7 @@ pub fn kinds_at(table: &[u8], row: usize) -> &[u8]
     }
     let at = row * 20 + 1;
     if at < table.len() {
-        part(table, at + 12, wide(table[at]))
+        part(table, at + 12, usize::from(table[at]))
     } else {
         part(table, 0, 0)
     }
@@ -64,86 +57,16 @@ fn has_name(table: &[u8], start: usize, len: usize, name: &[u8]) -> bool
     true
 }
 
-// The number of the row that has a name; how many rows there are, where none has it.
-fn row_of(table: &[u8], name: &[u8]) -> usize
+// The number of the row that has a name.
+pub(crate) fn row_of(table: &[u8], name: &[u8]) -> Option<usize>
     requires { SomeTable table.now }
     ensures { (rows : List Row) → Tabled rows table.now → Finds rows name.now result }
 {
-    let mut at = 0;
-    let mut row = 0;
-    while at < table.len() {
-        if has_name(table, at + 2, wide(table[at]), name) {
-            return row;
+    for row in 0..table.len() / 20 {
+        let at = row * 20;
+        if has_name(table, at + 2, usize::from(table[at]), name) {
+            return Some(row);
         }
-        at += 20;
-        row += 1;
     }
-    row
-}
-
-// The letters of a row's kinds, of which the first `count` count. They are eight, so that they are copied as one word.
-#[derive(Clone, Copy)]
-pub(crate) struct Kinds {
-    pub letters: [u8; 8],
-    pub count: usize,
-}
-
-// By value, so that the table itself need not be lent on.
-pub(crate) fn kinds_of(table: &[u8], row: usize) -> Kinds
-    requires { SomeTable table.now }
-    ensures { Held result × ((rows : List Row) → Tabled rows table.now → take result.count result.letters ≡ letters_in (row_no rows row)) }
-{
-    if table.len() / 20 <= row {
-        return Kinds {
-            letters: *b"        ",
-            count: 0,
-        };
-    }
-    let at = row * 20;
-    let k = at + 13;
-    let letters = [
-        table[k],
-        table[k + 1],
-        table[k + 2],
-        table[k + 3],
-        table[k + 4],
-        table[k + 5],
-        table[k + 6],
-        b' ',
-    ];
-    Kinds {
-        letters,
-        count: wide(table[at + 1]),
-    }
-}
-
-// A row, by its number, and the letters of its kinds.
-#[derive(Clone, Copy)]
-pub(crate) struct Entry {
-    pub row: usize,
-    pub kinds: Kinds,
-}
-
-// The row that has a name; where none has it, its number is how many there are, and it has no letters.
-pub(crate) fn entry_of(table: &[u8], name: &[u8]) -> Entry
-    requires { SomeTable table.now }
-    ensures { (rows : List Row) → Tabled rows table.now → Enters rows name.now result }
-{
-    let row = row_of(table, name);
-    Entry {
-        row,
-        kinds: kinds_of(table, row),
-    }
-}
-
-// A row of the part of a table that starts at `start`, by its number in the whole.
-pub(crate) fn numbered_from(start: usize, e: Entry) -> Entry
-    requires { start + e.row < 2 ^ 64 }
-    ensures { result ≡ record { row = start + e.row; kinds = e.kinds } }
-{
-    let kinds = e.kinds;
-    Entry {
-        row: start + e.row,
-        kinds,
-    }
+    None
 }

@@ -5,17 +5,15 @@ ghost use Rattle.at.specs.Event.{up_to};
 ghost use Rattle.at.specs.Line.{read_line, read_text};
 ghost use Rattle.at.specs.W26.{table, w26, shown};
 ghost use Rattle.at.specs.Table.{spelled};
-ghost use Rattle.at.specs.Steps.{Lettered, fields_in, outcome_by, is_unsupported, read_peer};
+ghost use Rattle.at.specs.Steps.{is_unsupported, read_peer};
 
-use crate::field::{Stop, take_fields, taken_for};
+use crate::field::{Field, take_fields};
 use crate::line::{frame_line, head_of};
-use crate::table::Entry;
 use crate::w26_event::event_of;
-use crate::w26_table::{bluetooth_kinds, entry, first_rows, last_rows, second_rows, third_rows};
+use crate::w26_table::{TABLE, kinds_of, row_named};
 use crate::{AtPacketError, ConnHandle, PeerHandle, ReadEvent, Text};
 use text::bytes::part;
 use text::field::Fields;
-use text::put::put;
 
 #[derive(Clone, Copy)]
 pub enum WifiLinkDisconnectedReason {
@@ -194,86 +192,42 @@ pub(crate) const UUBTGI: usize = 24;
 
 pub(crate) const UUDPC_BT: usize = 25;
 
-// How many rows there are.
-const ROWS: usize = 26;
-
 // The same rows in bytes (table.rt).
 pub fn rows() -> [u8; 520]
     ensures { result ≡ spelled table }
 {
-    let first = first_rows();
-    let second = second_rows();
-    let third = third_rows();
-    let last = last_rows();
-    let mut all = [0u8; 520];
-    put(&mut all, 0, &first);
-    put(&mut all, 140, &second);
-    put(&mut all, 280, &third);
-    put(&mut all, 420, &last);
-    all
-}
-
-fn is_unsupported(stop: Stop) -> bool
-    ensures { result ≡ is_unsupported stop }
-{
-    match stop {
-        Stop::Nowhere => false,
-        Stop::Refused(e) => match e {
-            AtPacketError::Utf8DecodeFailed => false,
-            AtPacketError::FramingDecodeFailed => false,
-            AtPacketError::TypeDecodeUnsupported => true,
-            AtPacketError::TypeDecodeParameterMissing { field: _ } => false,
-            AtPacketError::TypeDecodeParameterDataTypeInvalid { field: _, why: _ } => false,
-            AtPacketError::EventUnknown => false,
-        },
-    }
+    TABLE
 }
 
 // Whether a line is left to the second row of its name, since the first has not its type.
-fn is_left(row: usize, stop: Stop) -> bool
-    ensures { result ≡ cond (eqb row 0) (is_unsupported stop) false }
+fn is_left(row: usize, taken: Result<(), AtPacketError>) -> bool
+    ensures { result ≡ cond (eqb row 0) (is_unsupported taken) false }
 {
-    if row == UUDPC {
-        is_unsupported(stop)
-    } else {
-        false
-    }
+    row == UUDPC && matches!(taken, Err(AtPacketError::TypeDecodeUnsupported))
 }
 
-// What was taken for a row, as an answer; `past` is the place just past the event.
-fn answer(
+// The event of a row, from its fields; `past` is the place just past it.
+fn event_by(
     row: usize,
-    numbers: &[usize],
-    stop: Stop,
+    s: &[u8],
+    w: Fields,
     past: usize,
 ) -> Result<ReadEvent<ATEvent>, AtPacketError>
-    requires { (row < length table) × (length numbers.now ≡ 14) }
-    ensures { shown result ≡ up_to past (outcome_by table (record { row = row; fields = fields_in numbers.now }) stop) }
+    requires { row < length table }
+    ensures { shown result ≡ up_to past (read_peer row (left s.now w)) }
 {
-    match stop {
-        Stop::Nowhere => Ok(ReadEvent {
-            event: event_of(taken_for(row, numbers)),
-            past,
-        }),
-        Stop::Refused(e) => Err(e),
+    let mut fields = Field::none();
+    let mut by = row;
+    let mut taken = take_fields(&mut fields, kinds_of(row), s, w);
+    if is_left(row, taken) {
+        by = UUDPC_BT;
+        taken = take_fields(&mut fields, kinds_of(UUDPC_BT), s, w);
     }
-}
-
-// The event of a row, from its fields.
-fn event_by(e: Entry, s: &[u8], w: Fields, past: usize) -> Result<ReadEvent<ATEvent>, AtPacketError>
-    requires { (e.row < length table) × Lettered table e }
-    ensures { shown result ≡ up_to past (read_peer e.row (left s.now w)) }
-{
-    let at = w.at;
-    let mut row = e.row;
-    let mut numbers = [0usize; 14];
-    let kinds = e.kinds;
-    let mut stop = take_fields(&mut numbers, kinds, s, Fields { at });
-    if is_left(row, stop) {
-        row = UUDPC_BT;
-        stop = take_fields(&mut numbers, bluetooth_kinds(), s, Fields { at });
-    }
-    answer(row, &numbers, stop, past)
+    taken?;
+    Ok(ReadEvent {
+        event: event_of(by, &fields),
+        past,
+    })
 }
 
 // The event of the text from `start` to the end of `s`.
@@ -281,12 +235,10 @@ fn event_in(s: &[u8], start: usize, past: usize) -> Result<ReadEvent<ATEvent>, A
     ensures { shown result ≡ up_to past (read_text table start (drop start s.now)) }
 {
     let h = head_of(s, start);
-    let e = entry(part(s, start, h.len));
-    if e.row < ROWS {
-        event_by(e, s, h.fields, past)
-    } else {
-        Err(AtPacketError::EventUnknown)
-    }
+    let Some(row) = row_named(part(s, start, h.len)) else {
+        return Err(AtPacketError::EventUnknown);
+    };
+    event_by(row, s, h.fields, past)
 }
 
 // The event of the line that starts at `from`, which takes up the rest of the buffer.

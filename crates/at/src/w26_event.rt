@@ -4,9 +4,9 @@ ghost use Rattle.at.specs.Refusal.{good};
 ghost use Rattle.at.specs.Event.{kinds_of, event};
 ghost use Rattle.at.specs.W26.{table, UUDPC, UUDPC-BT, event_of};
 ghost use Rattle.at.specs.Parts.{row_no};
-ghost use Rattle.at.specs.Steps.{profile_of, reason_of, values_of, text_of, with_fields, event_by};
+ghost use Rattle.at.specs.Steps.{profile_of, reason_of, values_of, with_fields};
 
-use crate::field::{Field, Taken};
+use crate::field::Field;
 use crate::w26::{ATEvent, PeerConnectedProfile, WifiLinkDisconnectedReason};
 use crate::{ConnHandle, PeerHandle, Text, w26};
 
@@ -33,17 +33,8 @@ fn reason_of(n: usize) -> WifiLinkDisconnectedReason
     }
 }
 
-fn text_of(f: Field) -> Text
-    ensures { result ≡ text_of f }
-{
-    Text {
-        start: f.value,
-        len: f.len,
-    }
-}
-
-fn peer_connected(fields: [Field; 7]) -> ATEvent
-    ensures { event_of result ≡ event UUDPC (values_of (kinds_of UUDPC) 0 fields) }
+fn peer_connected(fields: &[Field; 7]) -> ATEvent
+    ensures { event_of result ≡ event UUDPC (values_of (kinds_of UUDPC) 0 fields.now) }
 {
     let handle = fields[0];
     let address = fields[1];
@@ -53,43 +44,43 @@ fn peer_connected(fields: [Field; 7]) -> ATEvent
     let remote = fields[5];
     let remote_port = fields[6];
     ATEvent::PeerConnectedIP {
-        peer_handle: PeerHandle((handle.value % 65536) as u16),
+        peer_handle: PeerHandle(handle.word()),
         is_ipv6: address.value == 3,
         protocol: profile_of(protocol.value),
-        local_address: text_of(local),
-        local_port: (local_port.value % 65536) as u16,
-        remote_address: text_of(remote),
-        remote_port: (remote_port.value % 65536) as u16,
+        local_address: local.text(),
+        local_port: local_port.word(),
+        remote_address: remote.text(),
+        remote_port: remote_port.word(),
     }
 }
 
-fn bluetooth_peer(fields: [Field; 7]) -> ATEvent
-    ensures { event_of result ≡ event UUDPC-BT (values_of (kinds_of UUDPC-BT) 0 fields) }
+fn bluetooth_peer(fields: &[Field; 7]) -> ATEvent
+    ensures { event_of result ≡ event UUDPC-BT (values_of (kinds_of UUDPC-BT) 0 fields.now) }
 {
     let handle = fields[0];
     let profile = fields[2];
     let address = fields[3];
     let frame_size = fields[4];
     ATEvent::PeerConnectedBluetooth {
-        peer_handle: PeerHandle((handle.value % 65536) as u16),
-        profile: (profile.value % 256) as u8,
-        address: text_of(address),
-        frame_size: (frame_size.value % 65536) as u16,
+        peer_handle: PeerHandle(handle.word()),
+        profile: profile.byte(),
+        address: address.text(),
+        frame_size: frame_size.word(),
     }
 }
 
 // No row comes to the last arm.
-fn gatt_event(row: usize, fields: [Field; 7]) -> ATEvent
-    ensures { 19 < row → row < length table → good (event_of result) ≡ with_fields (row_no table row) fields }
+fn gatt_event(row: usize, fields: &[Field; 7]) -> ATEvent
+    ensures { 19 < row → row < length table → good (event_of result) ≡ with_fields (row_no table row) fields.now }
 {
     let first = fields[0];
     let second = fields[1];
     let third = fields[2];
     let fourth = fields[3];
-    let link = (first.value % 65536) as u16;
-    let attribute = (second.value % 65536) as u16;
-    let options = (fourth.value % 256) as u8;
-    let data = text_of(third);
+    let link = first.word();
+    let attribute = second.word();
+    let options = fourth.byte();
+    let data = third.text();
     match row {
         w26::UUBTGRR => ATEvent::GATTRequestToRead {
             conn_handle: ConnHandle(link),
@@ -120,18 +111,18 @@ fn gatt_event(row: usize, fields: [Field; 7]) -> ATEvent
     }
 }
 
-fn bluetooth_event(row: usize, fields: [Field; 7]) -> ATEvent
-    ensures { 12 < row → row < length table → good (event_of result) ≡ with_fields (row_no table row) fields }
+fn bluetooth_event(row: usize, fields: &[Field; 7]) -> ATEvent
+    ensures { 12 < row → row < length table → good (event_of result) ≡ with_fields (row_no table row) fields.now }
 {
     let first = fields[0];
     let second = fields[1];
     let third = fields[2];
-    let handle = (first.value % 65536) as u16;
-    let length = (second.value % 65536) as u16;
-    let code = (second.value % 256) as u8;
-    let number = (second.value % 4294967296) as u32;
-    let address = text_of(first);
-    let remote = text_of(third);
+    let handle = first.word();
+    let length = second.word();
+    let code = second.byte();
+    let number = second.long();
+    let address = first.text();
+    let remote = third.text();
     match row {
         w26::UUDATA => ATEvent::DataAvailable {
             peer: PeerHandle(handle),
@@ -162,18 +153,16 @@ fn bluetooth_event(row: usize, fields: [Field; 7]) -> ATEvent
     }
 }
 
-pub(crate) fn event_of(t: Taken) -> ATEvent
-    ensures { t.row < length table → good (event_of result) ≡ event_by table t }
+pub(crate) fn event_of(row: usize, fields: &[Field; 7]) -> ATEvent
+    ensures { row < length table → good (event_of result) ≡ with_fields (row_no table row) fields.now }
 {
-    let row = t.row;
-    let fields = t.fields;
     let first = fields[0];
     let second = fields[1];
     let third = fields[2];
-    let id = (first.value % 65536) as u16;
-    let code = (second.value % 65536) as u16;
-    let channel = (third.value % 65536) as u16;
-    let address = text_of(second);
+    let id = first.word();
+    let code = second.word();
+    let channel = third.word();
+    let address = second.text();
     match row {
         w26::UUDPC => peer_connected(fields),
         w26::UUDPD => ATEvent::PeerDisconnected {

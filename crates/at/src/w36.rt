@@ -8,21 +8,19 @@ ghost use Rattle.at.specs.Binary.{read_body, try_rows};
 ghost use Rattle.at.specs.W36.{table, binary_table, rows36, w36, event_of, shown, shown_binary, UESODB as uesodb_row, UESODBF as uesodbf_row};
 ghost use Rattle.at.specs.Table.{spelled};
 ghost use Rattle.at.specs.Parts.{row_no, Apart};
-ghost use Rattle.at.specs.Steps.{event_by, Lettered, read_found};
+ghost use Rattle.at.specs.Steps.{with_fields, read_found};
 
 use crate::binary::{address_fields, data_at, find_marker, no_number};
-use crate::field::{Stop, Taken, take_fields, taken_for};
+use crate::field::{Field, take_fields};
 use crate::line::{first_line_end, frame_line, head_of};
 use crate::parts::Value::Place;
 use crate::parts::{Parts, Value};
-use crate::table::Entry;
-use crate::w36_table::{binary_rows, entry, first_rows, last_rows};
+use crate::w36_table::{TABLE, kinds_of, row_named};
 use crate::{AtPacketError, ReadEvent, SocketId, Text};
 use text::bytes::{part, starts_at};
 use text::field::Fields;
 use text::find::first_byte;
 use text::number::read as read_number;
-use text::put::put;
 
 #[derive(Clone, Copy)]
 pub enum ATEvent {
@@ -96,9 +94,6 @@ const UEWAPNU: usize = 11;
 
 const UEWAPND: usize = 12;
 
-// How many rows of text there are.
-const TEXT: usize = 13;
-
 const UESODB: usize = 13;
 
 const UESODBF: usize = 14;
@@ -107,37 +102,22 @@ const UESODBF: usize = 14;
 pub fn rows() -> [u8; 300]
     ensures { result ≡ spelled rows36 }
 {
-    let first = first_rows();
-    let last = last_rows();
-    let binary = binary_rows();
-    let mut all = [0u8; 300];
-    put(&mut all, 0, &first);
-    put(&mut all, 140, &last);
-    put(&mut all, 260, &binary);
-    all
+    TABLE
 }
 
 // The event of a row of text, from the fields that were taken for it. No row comes to the last arm.
-fn event_of(t: Taken) -> ATEvent
-    ensures { t.row < length table → good (event_of result) ≡ event_by table t }
+fn event_of(row: usize, fields: &[Field; 7]) -> ATEvent
+    ensures { row < length table → good (event_of result) ≡ with_fields (row_no table row) fields.now }
 {
-    let row = t.row;
-    let fields = t.fields;
     let first = fields[0];
     let second = fields[1];
     let third = fields[2];
-    let socket_id = SocketId((first.value % 256) as u8);
-    let wlan_handle = (first.value % 65536) as u16;
-    let number = (second.value % 65536) as u16;
-    let channel = (third.value % 65536) as u16;
-    let mac_addr = Text {
-        start: first.value,
-        len: first.len,
-    };
-    let bssid = Text {
-        start: second.value,
-        len: second.len,
-    };
+    let socket_id = SocketId(first.byte());
+    let wlan_handle = first.word();
+    let number = second.word();
+    let channel = third.word();
+    let mac_addr = first.text();
+    let bssid = second.text();
     match row {
         UESOC => ATEvent::SocketConnected { socket_id },
         UESOCL => ATEvent::SocketClosed { socket_id },
@@ -225,20 +205,21 @@ impl From<ATEvent> for Parts {
 }
 
 // The event of a row, from its fields; `past` is the place just past it.
-fn event_by(e: Entry, s: &[u8], w: Fields, past: usize) -> Result<ReadEvent<ATEvent>, AtPacketError>
-    requires { (e.row < length table) × Lettered table e }
-    ensures { shown result ≡ up_to past (read_found (row_no table e.row) (left s.now w)) }
+fn event_by(
+    row: usize,
+    s: &[u8],
+    w: Fields,
+    past: usize,
+) -> Result<ReadEvent<ATEvent>, AtPacketError>
+    requires { row < length table }
+    ensures { shown result ≡ up_to past (read_found (row_no table row) (left s.now w)) }
 {
-    let mut numbers = [0usize; 14];
-    let kinds = e.kinds;
-    let stop = take_fields(&mut numbers, kinds, s, w);
-    match stop {
-        Stop::Nowhere => Ok(ReadEvent {
-            event: event_of(taken_for(e.row, &numbers)),
-            past,
-        }),
-        Stop::Refused(e) => Err(e),
-    }
+    let mut fields = Field::none();
+    take_fields(&mut fields, kinds_of(row), s, w)?;
+    Ok(ReadEvent {
+        event: event_of(row, &fields),
+        past,
+    })
 }
 
 // The event of the text from `start` to the end of `s`.
@@ -246,12 +227,10 @@ fn event_in(s: &[u8], start: usize, past: usize) -> Result<ReadEvent<ATEvent>, A
     ensures { shown result ≡ up_to past (read_text table start (drop start s.now)) }
 {
     let h = head_of(s, start);
-    let e = entry(part(s, start, h.len));
-    if e.row < TEXT {
-        event_by(e, s, h.fields, past)
-    } else {
-        Err(AtPacketError::EventUnknown)
-    }
+    let Some(row) = row_named(part(s, start, h.len)) else {
+        return Err(AtPacketError::EventUnknown);
+    };
+    event_by(row, s, h.fields, past)
 }
 
 // The text event of the line that starts at `from`: it ends with the next CR LF.

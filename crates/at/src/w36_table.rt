@@ -1,64 +1,39 @@
-// The table of W36 events in bytes (table.rt): the rows of text, in halves for the reason that w26_table.rt gives, and the rows of binary.
-ghost use Rattle.std.specs.Prelude.{◌≡◌, take, drop};
-ghost use Rattle.at.specs.W36.{table, binary_table};
-ghost use Rattle.at.specs.Table.{spelled};
-ghost use Rattle.at.specs.Steps.{Enters};
+// The table of W36 events in bytes (table.rt), and what is looked for in its rows of text, which stand in front of those of binary.
+ghost use Rattle.std.specs.Prelude.{◌≡◌, ◌<◌, length};
+ghost use Rattle.at.specs.W36.{table};
+ghost use Rattle.at.specs.Parts.{row_no};
+ghost use Rattle.at.specs.Steps.{Finds, letters_in};
 
-use crate::table::{Entry, entry_of, numbered_from};
+use crate::table::{kinds_at, row_of};
 
-pub(crate) fn first_rows() -> [u8; 140]
-    ensures { result ≡ spelled (take 7 table) }
+pub(crate) static TABLE: [u8; 300] = *b"\
+    \x06\x01+UESOC     b      \
+    \x07\x01+UESOCL    b      \
+    \x07\x02+UESODA    bw     \
+    \x06\x03+UEWLU     wsw    \
+    \x06\x02+UEWLD     ww     \
+    \x08\x01+UEWAPSA   s      \
+    \x09\x01+UEWAPSDA  s      \
+    \x07\x00+UEWAPU           \
+    \x07\x00+UEWAPD           \
+    \x07\x00+UEWSNU           \
+    \x07\x00+UEWSND           \
+    \x08\x00+UEWAPNU          \
+    \x08\x00+UEWAPND          \
+    \x07\x01+UESODB    b      \
+    \x08\x03+UESODBF   bsw    ";
+
+// The number of the row of text that has a name.
+pub(crate) fn row_named(name: &[u8]) -> Option<usize>
+    ensures { Finds table name.now result }
 {
-    *b"\x06\x01+UESOC     b      \
-        \x07\x01+UESOCL    b      \
-        \x07\x02+UESODA    bw     \
-        \x06\x03+UEWLU     wsw    \
-        \x06\x02+UEWLD     ww     \
-        \x08\x01+UEWAPSA   s      \
-        \x09\x01+UEWAPSDA  s      "
+    row_of(&TABLE[..260], name)
 }
 
-pub(crate) fn last_rows() -> [u8; 120]
-    ensures { result ≡ spelled (drop 7 table) }
+// The letters of a row's kinds.
+pub(crate) fn kinds_of(row: usize) -> &'static [u8]
+    requires { row < length table }
+    ensures { result.now ≡ letters_in (row_no table row) }
 {
-    *b"\x07\x00+UEWAPU           \
-        \x07\x00+UEWAPD           \
-        \x07\x00+UEWSNU           \
-        \x07\x00+UEWSND           \
-        \x08\x00+UEWAPNU          \
-        \x08\x00+UEWAPND          "
-}
-
-pub(crate) fn binary_rows() -> [u8; 40]
-    ensures { result ≡ spelled binary_table }
-{
-    *b"\x07\x01+UESODB    b      \
-        \x08\x03+UESODBF   bsw    "
-}
-
-// The row of a name in each half.
-fn first_entry(name: &[u8]) -> Entry
-    ensures { Enters (take 7 table) name.now result }
-{
-    let rows = first_rows();
-    entry_of(&rows, name)
-}
-
-fn last_entry(name: &[u8]) -> Entry
-    ensures { Enters (drop 7 table) name.now result }
-{
-    let rows = last_rows();
-    entry_of(&rows, name)
-}
-
-// The row of a name.
-pub(crate) fn entry(name: &[u8]) -> Entry
-    ensures { Enters table name.now result }
-{
-    let first = first_entry(name);
-    if first.row < 7 {
-        return numbered_from(0, first);
-    }
-    let last = last_entry(name);
-    numbered_from(7, last)
+    kinds_at(&TABLE[..260], row)
 }

@@ -15,7 +15,7 @@ overflow_add-at c = omega (arith, c.if-table-row.false)
 
 pub returns-then-at-table : goal.returns-then-at-table
 returns-then-at-table c = let e : c.args.row * 20 + 1 + 12 ≡ c.args.row * 20 + 13 = omega arith in
-    rw (e, c.wide.ensures.0) at c.part-then-at-table.ensures
+    rw (e, c.from.ensures) at c.part-then-at-table.ensures
 
 pub returns-else-at-table : goal.returns-else-at-table
 returns-else-at-table c = c.part-else-at-table.ensures ∙ none_past c.args.table.now (c.args.row * 20 + 1) (c.args.row * 20 + 13) (omega (arith, c.if-at-table.false))

@@ -11,7 +11,7 @@ pub overflow_mul-at : goal.overflow_mul-at
 overflow_mul-at c = omega (arith, c.if-table-row.false)
 
 pub returns-then-at-table : goal.returns-then-at-table
-returns-then-at-table c = rw c.wide.ensures.0 at c.part-then-at-table.ensures
+returns-then-at-table c = rw c.from.ensures at c.part-then-at-table.ensures
 
 pub returns-else-at-table : goal.returns-else-at-table
 returns-else-at-table c = c.part-else-at-table.ensures ∙ none_past c.args.table.now (c.args.row * 20) (c.args.row * 20 + 2) (omega (arith, c.if-at-table.false))

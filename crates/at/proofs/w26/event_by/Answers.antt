@@ -1,16 +1,15 @@
 use Prim.Native.Nat.{◌<◌}
-use mathlib.Core.Path.{◌≡◌, refl, sym, ap, ◌∙◌}
+use mathlib.Core.Path.{◌≡◌, sym, ap, ◌∙◌}
 use native.Mathlib.Omega.{arith}
 use lib.ListN.{length}
+use Rattle.std.proofs.lemmas.Result.{err_from_is_err_and}
 use Rattle.text.specs.FieldSteps.{left}
 use Rattle.at.specs.Event.{up_to}
-use Rattle.at.specs.Steps.{fields_in, outcome_by, read_peer}
+use Rattle.at.specs.Steps.{outcome_by, read_peer}
 use Rattle.at.specs.W26.{table}
-use Rattle.at.specs.declared.field.Taken.{Taken}
-use Rattle.at.proofs.TableLaws.{outcome_read}
-use Rattle.at.proofs.TableTests.{rows-w26, legible-w26}
+use Rattle.at.proofs.TableLaws.{few_letters, outcome_read}
+use Rattle.at.proofs.TableTests.{rows-w26, roomy-w26, legible-w26}
 use Rattle.at.proofs.RowsLaws.{not-left_read, left_read}
-use borrow.Author.Rules.{rules}
 use Rattle.at.proofs.w26.event_by.Goals as goal
 use Rattle.at.proofs.w26.event_by.Goals.{Joined-is_left, then-is_left, else-is_left}
 
@@ -18,33 +17,38 @@ use Rattle.at.proofs.w26.event_by.Goals.{Joined-is_left, then-is_left, else-is_l
 -- what was taken by the one row or the other
 settled : (c : Joined-is_left)
     → let a = c.args in
-    (c.if-is_left.row < length table)
-    × (length c.if-is_left.numbers ≡ 14)
-    × (outcome_by table (record { row = c.if-is_left.row; fields = fields_in c.if-is_left.numbers }) c.if-is_left.stop ≡ read_peer a.e.row (left a.s.now a.w))
+    (c.if-is_left.by < length table)
+    × (outcome_by table c.if-is_left.by c.if-is_left.fields c.if-is_left.taken ≡ read_peer a.row (left a.s.now a.w))
 settled c =
     let a = c.args in
-    let pre = c.requires in
-    let first = outcome_read table a.e (left a.s.now a.w) c.take_fields-stop.new.numbers c.take_fields-stop.result pre.0 legible-w26 pre.1 c.take_fields-stop.ensures in
-    let taken : Taken = record { row = a.e.row; fields = fields_in c.take_fields-stop.new.numbers } in
+    let first = outcome_read table a.row _ (left a.s.now a.w) c.take_fields-taken.new.fields c.take_fields-taken.result c.requires legible-w26 c.kinds_of.ensures c.take_fields-taken.ensures in
     elim c.if-is_left.branch [
       | then-is_left w ↦
-          let second = outcome_read table (record { row = 25; kinds = w.bluetooth_kinds.result }) (left a.s.now a.w) w.take_fields-stop-then-is_left.new.numbers w.take_fields-stop-then-is_left.result (omega (arith, rows-w26)) legible-w26 w.bluetooth_kinds.ensures w.take_fields-stop-then-is_left.ensures in (
-            rw w.row-is (omega (arith, rows-w26)),
-            rw w.numbers-is (search rules),
-            rw (w.row-is, w.numbers-is, w.stop-is) (left_read a.e.row _ taken c.take_fields-stop.result first _ second (sym c.is_left.ensures ∙ w.if-is_left.true)),
+          let second = outcome_read table 25 _ (left a.s.now a.w) w.take_fields-taken-then-is_left.new.fields w.take_fields-taken-then-is_left.result (omega (arith, rows-w26)) legible-w26 w.kinds_of-then-is_left.ensures w.take_fields-taken-then-is_left.ensures in (
+            rw w.by-is (omega (arith, rows-w26)),
+            rw (w.by-is, w.fields-is, w.taken-is) (left_read a.row _ _ c.take_fields-taken.result first _ second (sym c.is_left.ensures ∙ w.if-is_left.true)),
           )
       | else-is_left w ↦ (
-        rw w.row-is pre.0,
-        rw w.numbers-is (search rules),
-        rw (w.row-is, w.numbers-is, w.stop-is) (not-left_read a.e.row _ taken c.take_fields-stop.result first refl (sym c.is_left.ensures ∙ w.if-is_left.false)),
+        rw w.by-is c.requires,
+        rw (w.by-is, w.fields-is, w.taken-is) (not-left_read a.row _ _ c.take_fields-taken.result first (sym c.is_left.ensures ∙ w.if-is_left.false)),
       )
     ]
 
-pub slice_bounds-answer-end : goal.slice_bounds-answer-end
-slice_bounds-answer-end c = sym (settled (goal.at.slice_bounds-answer-end c).Joined-is_left).1
+pub take_fields-taken-requires : goal.take_fields-taken-requires
+take_fields-taken-requires c = rw c.kinds_of.ensures (few_letters table c.args.row roomy-w26.0 c.requires)
 
-pub answer-requires : goal.answer-requires
-answer-requires c = ((settled (goal.at.answer-requires c).Joined-is_left).0, (settled (goal.at.answer-requires c).Joined-is_left).1)
+pub take_fields-taken-requires-then-is_left : goal.take_fields-taken-requires-then-is_left
+take_fields-taken-requires-then-is_left c = rw c.kinds_of-then-is_left.ensures (few_letters table 25 roomy-w26.0 (omega (arith, rows-w26)))
+
+pub kinds_of-requires-then-is_left : goal.kinds_of-requires-then-is_left
+kinds_of-requires-then-is_left c = omega (arith, rows-w26)
 
 pub returns : goal.returns
-returns c = c.answer.ensures ∙ ap (up_to c.args.past) (settled (goal.at.returns c).Joined-is_left).2
+returns c =
+    let s = settled (goal.at.returns c).Joined-is_left in
+    ap (up_to c.args.past) (c.event_of.ensures s.0 ∙ rw c.in_ok-taken.was at s.1)
+
+pub returns-in_err-taken : goal.returns-in_err-taken
+returns-in_err-taken c =
+    let p = err_from_is_err_and c.from_residual.result c.from_residual.ensures.1 in
+    rw (p.1, p.2) (ap (up_to c.args.past) (rw c.in_err-taken.was at (settled (goal.at.returns-in_err-taken c).Joined-is_left).1))

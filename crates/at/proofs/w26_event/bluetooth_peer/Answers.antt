@@ -3,4 +3,4 @@ use Rattle.at.proofs.w26_event.bluetooth_peer.Goals as goal
 
 pub returns : goal.returns
 unfolding values_of
-returns c = rw c.text_of.ensures
+returns c = rw (c.word.ensures, c.byte.ensures, c.text.ensures, c.word-2.ensures)

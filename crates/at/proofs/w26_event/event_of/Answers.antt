@@ -11,31 +11,31 @@ returns-in-0 c = λ h. rw (c.in-0.is, c.peer_connected.ensures)
 
 pub returns-in-1 : goal.returns-in-1
 unfolding row_no values_of table
-returns-in-1 c = λ h. rw c.in-1.is
+returns-in-1 c = λ h. rw (c.in-1.is, c.word-id.ensures)
 
 pub returns-in-2 : goal.returns-in-2
 unfolding row_no values_of table
-returns-in-2 c = λ h. rw (c.in-2.is, c.text_of-address.ensures)
+returns-in-2 c = λ h. rw (c.in-2.is, c.word-id.ensures, c.word-channel.ensures, c.text-address.ensures)
 
 pub returns-in-3 : goal.returns-in-3
 unfolding row_no values_of table
-returns-in-3 c = λ h. rw (c.in-3.is, c.reason_of.ensures)
+returns-in-3 c = λ h. rw (c.in-3.is, c.word-id.ensures, c.reason_of.ensures)
 
 pub returns-in-4 : goal.returns-in-4
 unfolding row_no values_of table
-returns-in-4 c = λ h. rw c.in-4.is
+returns-in-4 c = λ h. rw (c.in-4.is, c.word-id.ensures)
 
 pub returns-in-5 : goal.returns-in-5
 unfolding row_no values_of table
-returns-in-5 c = λ h. rw c.in-5.is
+returns-in-5 c = λ h. rw (c.in-5.is, c.word-id.ensures)
 
 pub returns-in-6 : goal.returns-in-6
 unfolding row_no values_of table
-returns-in-6 c = λ h. rw (c.in-6.is, c.text_of-address.ensures)
+returns-in-6 c = λ h. rw (c.in-6.is, c.word-id.ensures, c.text-address.ensures)
 
 pub returns-in-7 : goal.returns-in-7
 unfolding row_no values_of table
-returns-in-7 c = λ h. rw c.in-7.is
+returns-in-7 c = λ h. rw (c.in-7.is, c.word-id.ensures)
 
 pub returns-in-8 : goal.returns-in-8
 unfolding row_no values_of table
@@ -47,15 +47,15 @@ returns-in-9 c = λ h. rw c.in-9.is
 
 pub returns-in-10 : goal.returns-in-10
 unfolding row_no values_of table
-returns-in-10 c = λ h. rw c.in-10.is
+returns-in-10 c = λ h. rw (c.in-10.is, c.word-id.ensures)
 
 pub returns-in-11 : goal.returns-in-11
 unfolding row_no values_of table
-returns-in-11 c = λ h. rw c.in-11.is
+returns-in-11 c = λ h. rw (c.in-11.is, c.word-id.ensures)
 
 pub returns-in-12 : goal.returns-in-12
 unfolding row_no values_of table
-returns-in-12 c = λ h. rw c.in-12.is
+returns-in-12 c = λ h. rw (c.in-12.is, c.word-id.ensures, c.word-code.ensures)
 
 pub returns-in_default : goal.returns-in_default
 unfolding row_no values_of table

@@ -12,23 +12,23 @@ returns-in_default c = λ g h. let n = none_of _ 20 6 g c.in_default.in_default-
 
 pub returns-in-20 : goal.returns-in-20
 unfolding row_no values_of table
-returns-in-20 c = λ g h. rw c.in-20.is
+returns-in-20 c = λ g h. rw (c.in-20.is, c.word-link.ensures, c.word-attribute.ensures)
 
 pub returns-in-21 : goal.returns-in-21
 unfolding row_no values_of table
-returns-in-21 c = λ g h. rw (c.in-21.is, c.text_of-data.ensures)
+returns-in-21 c = λ g h. rw (c.in-21.is, c.word-link.ensures, c.word-attribute.ensures, c.byte-options.ensures, c.text-data.ensures)
 
 pub returns-in-22 : goal.returns-in-22
 unfolding row_no values_of table
-returns-in-22 c = λ g h. rw c.in-22.is
+returns-in-22 c = λ g h. rw (c.in-22.is, c.word-link.ensures, c.word-attribute.ensures)
 
 pub returns-in-23 : goal.returns-in-23
 unfolding row_no values_of table
-returns-in-23 c = λ g h. rw (c.in-23.is, c.text_of-data.ensures)
+returns-in-23 c = λ g h. rw (c.in-23.is, c.word-link.ensures, c.word-attribute.ensures, c.text-data.ensures)
 
 pub returns-in-24 : goal.returns-in-24
 unfolding row_no values_of table
-returns-in-24 c = λ g h. rw (c.in-24.is, c.text_of-data.ensures)
+returns-in-24 c = λ g h. rw (c.in-24.is, c.word-link.ensures, c.word-attribute.ensures, c.text-data.ensures)
 
 pub returns-in-25 : goal.returns-in-25
 unfolding row_no values_of table

@@ -13,31 +13,31 @@ returns-in_default c = λ h. let n = none_of _ 0 13 zero-le c.in_default.in_defa
 
 pub returns-in-0 : goal.returns-in-0
 unfolding row_no values_of table
-returns-in-0 c = λ h. rw c.in-0.is
+returns-in-0 c = λ h. rw (c.in-0.is, c.byte.ensures)
 
 pub returns-in-1 : goal.returns-in-1
 unfolding row_no values_of table
-returns-in-1 c = λ h. rw c.in-1.is
+returns-in-1 c = λ h. rw (c.in-1.is, c.byte.ensures)
 
 pub returns-in-2 : goal.returns-in-2
 unfolding row_no values_of table
-returns-in-2 c = λ h. rw c.in-2.is
+returns-in-2 c = λ h. rw (c.in-2.is, c.byte.ensures, c.word-number.ensures)
 
 pub returns-in-3 : goal.returns-in-3
 unfolding row_no values_of table
-returns-in-3 c = λ h. rw c.in-3.is
+returns-in-3 c = λ h. rw (c.in-3.is, c.word-wlan_handle.ensures, c.word-channel.ensures, c.text-bssid.ensures)
 
 pub returns-in-4 : goal.returns-in-4
 unfolding row_no values_of table
-returns-in-4 c = λ h. rw c.in-4.is
+returns-in-4 c = λ h. rw (c.in-4.is, c.word-wlan_handle.ensures, c.word-number.ensures)
 
 pub returns-in-5 : goal.returns-in-5
 unfolding row_no values_of table
-returns-in-5 c = λ h. rw c.in-5.is
+returns-in-5 c = λ h. rw (c.in-5.is, c.text-mac_addr.ensures)
 
 pub returns-in-6 : goal.returns-in-6
 unfolding row_no values_of table
-returns-in-6 c = λ h. rw c.in-6.is
+returns-in-6 c = λ h. rw (c.in-6.is, c.text-mac_addr.ensures)
 
 pub returns-in-7 : goal.returns-in-7
 unfolding row_no values_of table

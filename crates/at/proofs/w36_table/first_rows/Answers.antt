@@ -1,8 +1,0 @@
-use mathlib.Core.Path.{refl}
-use Rattle.at.specs.Table.{spelled}
-use Rattle.at.specs.W36.{table}
-use Rattle.at.proofs.w36_table.first_rows.Goals as goal
-
-pub returns : goal.returns
-unfolding spelled table
-returns c = refl
