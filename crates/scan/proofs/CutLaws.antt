@@ -11,7 +11,8 @@ use Rattle.scan.specs.Cut.{passes, run, Piece, kept, skipped, ◌before◌, cut_
 use Rattle.text.specs.Bytes.{part}
 use Rattle.scan.specs.Step.{kept_length, skipped_length, piece, Starts}
 use Rattle.scan.specs.declared.run.Range.{Range}
-use Rattle.scan.proofs.RunLaws.{by_cases, stands, run_length, kept_whole, kept-length, is-kept, is_skipped, kept-nothing}
+use Rattle.std.specs.Prelude.{Some, None}
+use Rattle.scan.proofs.RunLaws.{by_cases, stands, run_length, is-kept, is_skipped}
 
 -- the rule. What is in the range before is passed by
 pub cut-after : (n : ℕ) (s : List ℕ) → cut_after n s ≡ cut (drop n s)
@@ -79,39 +80,24 @@ cut-skips (b ∷ s) h =
     (λ e. let z = skips-none (b ∷ s) e in absurd (omega arith))
     (λ e. cut_skipped b s e ∙ rw (skips-one b s e) (joined b s (skipped_length s) refl (cut-skips s)))
 
--- the first range, as the code finds it: a run that is kept
-module _ (s : List ℕ) where
-  first-kept : 0 < kept_length s → cut s ≡ kept (take (kept_length s) s) ∷ cut (drop (kept_length s) s)
-  unfolding run
-  first-kept h =
-      let e = is-kept s h in
-      let l = kept_whole s (stands s e) in
-      cut-kept s e ∙ rw (kept-length s e, l)
-
-  kept-within : kept_length s ≤ length s
-  kept-within =
-      by_cases (passes (run s))
-      (λ e. let w = (stands s e).whole in let l = kept_whole s (stands s e) in omega arith)
-      (λ e. let z = kept-nothing s e in omega arith)
-
--- or bytes that are skipped
-pub first-moves : (s : List ℕ) → 0 < length s → kept_length s ≡ 0 → 0 < skipped_length s
+-- what is left moves on, by a run that is kept or by bytes that are skipped
+pub first-moves : (s : List ℕ) → 0 < length s → passes (run s) ≡ false → 0 < skipped_length s
 first-moves [] h e = absurd (omega arith)
-first-moves (b ∷ s) h e = let z = skips-one b s (is_skipped (b ∷ s) e) in omega arith
+first-moves (b ∷ s) h e = let z = skips-one b s e in omega arith
 
--- the search for them, from place to place
+-- the search for the next run, from place to place
 module _ (s : List ℕ) (i : ℕ) where
-  pub skips-stop : 0 < kept_length (drop i s) → skipped_length (drop i s) ≡ 0
-  skips-stop h = skips-none (drop i s) (is-kept (drop i s) h)
+  pub skips-stop : passes (run (drop i s)) ≡ true → skipped_length (drop i s) ≡ 0
+  skips-stop h = skips-none (drop i s) h
 
   pub skips-end : length s ≤ i → skipped_length (drop i s) ≡ 0
   unfolding skipped_length
   skips-end h = rw (drop_of_length-le s h)
 
-  pub skips-next : i < length s → kept_length (drop i s) ≡ 0 → skipped_length (drop i s) ≡ suc (skipped_length (drop (i + 1) s))
+  pub skips-next : i < length s → passes (run (drop i s)) ≡ false → skipped_length (drop i s) ≡ suc (skipped_length (drop (i + 1) s))
   skips-next h e =
       let d = drop-cons s i 0 h in
-      rw (add-one i, d) (skips-one (get_or s i 0) (drop (suc i) s) (is_skipped (get_or s i 0 ∷ drop (suc i) s) (rw d at e)))
+      rw (add-one i, d) (skips-one (get_or s i 0) (drop (suc i) s) (rw d at e))
 
   -- the part that the code takes is the rest
   pub rest : part s i (length s) ≡ drop i s
@@ -141,15 +127,18 @@ rows-length at [] = refl
 rows-length at (p ∷ ps) = let h = rows-length (at + length (text p)) ps in omega arith
 
 -- the first range of what is left, as the code answers it
-pub starts_kept_lem : (s : List ℕ) (n : ℕ) → n ≡ kept_length s → 0 < n → Starts s (record { len = n; kept = true })
-starts_kept_lem s n e h =
-    let g = kept-within s in
-    record { cuts = rw e (first-kept s (omega arith)); moves = h; within = omega arith }
+pub starts_kept_lem : (s : List ℕ) (n : ℕ) → kept_length s ≡ Some n → Starts s (record { len = n; kept = true })
+unfolding run
+starts_kept_lem s n e =
+    let k = is-kept s n e in
+    let w = (stands s k.0).whole in
+    let l = run_length s w in
+    record { cuts = cut-kept s k.0 ∙ rw (← k.1, k.1 ∙ l); moves = omega (arith, k.1); within = omega (arith, k.1) }
 
-pub starts_skipped : (s : List ℕ) (n k : ℕ) → 0 < length s → n ≡ kept_length s → n ≤ 0 → k ≡ skipped_length s → Starts s (record { len = k; kept = false })
-starts_skipped s n k h e z f =
+pub starts_skipped : (s : List ℕ) (k : ℕ) → 0 < length s → kept_length s ≡ None → k ≡ skipped_length s → Starts s (record { len = k; kept = false })
+starts_skipped s k h e f =
     let g = skips-within s in
-    let m = first-moves s h (omega arith) in
+    let m = first-moves s h (is_skipped s e) in
     record { cuts = rw f (cut-skips s m); moves = omega arith; within = omega arith }
 
 -- and of a dump from a place on

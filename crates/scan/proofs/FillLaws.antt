@@ -1,82 +1,94 @@
 -- Laws of listing the ranges, row by row. Assumes nothing.
-use Prim.Native.Nat.{ℕ, suc, ◌+◌, ◌≤◌}
+use Prim.Native.Nat.{ℕ, ◌+◌, ◌-◌, ◌≤◌}
 use mathlib.Core.Path.{◌≡◌, refl, sym, ap, ◌∙◌}
 use mathlib.Core.List.{List, [], ◌∷◌, ◌++◌, append_assoc, append-nil}
-use mathlib.Core.Bool.{Bool, true, false, cond}
 use native.Mathlib.Omega.{arith}
-use native.Mathlib.Numerals.{add-one}
-use lib.ListN.{length, take, drop, set, length-append, length-drop, take-append-drop}
-use lib.Seq.{sets-eq, take_at, drop_at, drop-drop, length-take-le}
-use Rattle.scan.specs.Cut.{cut, text, mark, rows}
-use Rattle.scan.specs.Step.{piece}
+use lib.ListN.{length, take, drop, length-append, length-drop, take-append-drop}
+use lib.Seq.{drop-drop, length-take-le}
+use mir.Val.{bool_byte}
+use borrow.Rule.Slice.PartMut.{put_mid}
+use Rattle.std.specs.Prelude.{map}
+use Rattle.std.proofs.lemmas.List.{length-map}
+use Rattle.std.proofs.lemmas.Slice.{take-put_mid, drop-put_mid}
+use Rattle.scan.specs.Cut.{Piece, kept, skipped, cut, rows}
+use Rattle.scan.specs.Step.{range_of, ranges_of}
 use Rattle.scan.specs.declared.run.Range.{Range}
-use Rattle.scan.proofs.CutLaws.{Next, cut-end}
+use Rattle.scan.proofs.Ranges.{joined, covers}
+use Rattle.scan.proofs.CutLaws.{cut-nothing, cut-length}
 
--- three stores
-pub row_put : (l : List ℕ) (i a b d : ℕ) → i + 3 ≤ length l → set (set (set l i a) (i + 1) b) (i + 2) d ≡ take i l ++ (a ∷ b ∷ d ∷ []) ++ drop (i + 3) l
-row_put l i a b d h =
-    let two : i + 2 ≡ suc (suc i) = omega arith in
-    rw (add-one i, two) (sets-eq (a ∷ b ∷ d ∷ []) l i h)
+-- the code goes over no range of an empty dump
+pub none_left : (s : List ℕ) → length s ≡ 0 → ranges_of s ≡ []
+none_left [] h = ap (map range_of) cut-nothing
+none_left (b ∷ s) h = absurd (omega arith)
 
-text-piece : (k : Bool) (t : List ℕ) → text (piece k t) ≡ t
-text-piece true t = refl
-text-piece false t = refl
+pub few_left : (s : List ℕ) → length (ranges_of s) ≤ length s
+few_left s = omega (arith, length-map (cut s) range_of, cut-length 0 s)
 
-mark-piece : (k : Bool) (t : List ℕ) → mark (piece k t) ≡ cond k 1 0
-mark-piece true t = refl
-mark-piece false t = refl
+-- the rows of ranges, the first of which starts at this place, and how many bytes they take up
+abbrev pub range_rows : ℕ → List Range → List ℕ
+range_rows at [] = []
+range_rows at (r ∷ rs) = at ∷ r.len ∷ bool_byte r.kept ∷ range_rows (at + r.len) rs
 
--- the rows from a place on: that of the range there, and those after it
-pub row_first : (dump : List ℕ) (at : ℕ) (r : Range) → Next dump at r
-    → rows at (cut (drop at dump)) ≡ at ∷ r.len ∷ cond r.kept 1 0 ∷ rows (at + r.len) (cut (drop (at + r.len) dump))
+abbrev pub total : List Range → ℕ
+total [] = 0
+total (r ∷ rs) = r.len + total rs
+
+pub same_rows : (at : ℕ) (ps : List Piece) → rows at ps ≡ range_rows at (map range_of ps)
 unfolding rows
-row_first dump at r n =
-    let t = take r.len (drop at dump) in
-    let w = n.within in
-    let d = length-drop at dump in
-    let l = length-take-le r.len (drop at dump) (omega arith) in
-    ap (rows at) n.cuts ∙ rw (text-piece r.kept (take r.len (drop at dump)), mark-piece r.kept (take r.len (drop at dump)), l)
+same_rows at [] = refl
+same_rows at (kept t ∷ ps) = ap (λ (q : List ℕ). at ∷ length t ∷ 1 ∷ q) (same_rows (at + length t) ps)
+same_rows at (skipped t ∷ ps) = ap (λ (q : List ℕ). at ∷ length t ∷ 0 ∷ q) (same_rows (at + length t) ps)
 
--- the list with i numbers listed, of the ranges up to a place
-pub record Filling (dump list₀ list : List ℕ) (i at : ℕ) : Type 0 where
-  pub within : at ≤ length dump
-  pub left : i + length (rows at (cut (drop at dump))) ≡ length (rows 0 (cut dump))
-  pub done : rows 0 (cut dump) ≡ take i list ++ rows at (cut (drop at dump))
+total_joined : (ps : List Piece) → total (map range_of ps) ≡ length (joined ps)
+total_joined [] = refl
+total_joined (kept t ∷ ps) = let h = total_joined ps in let l = length-append t (joined ps) in omega arith
+total_joined (skipped t ∷ ps) = let h = total_joined ps in let l = length-append t (joined ps) in omega arith
+
+pub total_whole : (s : List ℕ) → total (ranges_of s) ≡ length s
+total_whole s = total_joined (cut s) ∙ ap length (covers s)
+
+-- the list with i numbers listed, of the ranges up to a place, where these are left
+pub record Filling (dump list₀ list : List ℕ) (i at : ℕ) (rs : List Range) : Type 0 where
+  pub placed : at + total rs ≡ length dump
+  pub left : i + length (range_rows at rs) ≡ length (rows 0 (cut dump))
+  pub done : rows 0 (cut dump) ≡ take i list ++ range_rows at rs
   pub same : drop i list ≡ drop i list₀
   pub sized : length list ≡ length list₀
 
-pub filling_start : (dump list : List ℕ) → Filling dump list list 0 0
-filling_start dump list = record { within = omega arith; left = omega arith; done = refl; same = refl; sized = refl }
+pub filling_start : (dump list : List ℕ) → Filling dump list list 0 0 (ranges_of dump)
+filling_start dump list =
+    let t = total_whole dump in
+    let e = same_rows 0 (cut dump) in
+    record { placed = omega arith; left = omega (arith, ap length e); done = e; same = refl; sized = refl }
 
-module _ (dump list₀ list : List ℕ) (i at : ℕ) (f : Filling dump list₀ list i at) where
-  pub filling_more : (r : Range) (list' : List ℕ) → Next dump at r → length (rows 0 (cut dump)) ≤ length list₀
-      → list' ≡ take i list ++ (at ∷ r.len ∷ cond r.kept 1 0 ∷ []) ++ drop (i + 3) list → Filling dump list₀ list' (i + 3) (at + r.len)
-  filling_more r list' n room e =
-      let row = at ∷ r.len ∷ cond r.kept 1 0 ∷ [] in
-      let one = row_first dump at r n in
-      let l = ap length one in
+module _ (dump list₀ list : List ℕ) (i at : ℕ) where
+  pub filling_more : (r : Range) (rs : List Range) (row : List ℕ) → Filling dump list₀ list i at (r ∷ rs) → length (rows 0 (cut dump)) ≤ length list₀
+      → row ≡ at ∷ r.len ∷ bool_byte r.kept ∷ [] → Filling dump list₀ (put_mid i (i + 3 - i) list row) (i + 3) (at + r.len) rs
+  filling_more r rs row f room e =
+      let l = ap length e in
       let m = f.left in
+      let p = f.placed in
       let z = f.sized in
-      let t = length-take-le i list (omega arith) in
-      let p = length-append (take i list) (at ∷ r.len ∷ cond r.kept 1 0 ∷ []) in
-      let q = length-append (take i list ++ (at ∷ r.len ∷ cond r.kept 1 0 ∷ [])) (drop (i + 3) list) in
-      let u = length-drop (i + 3) list in
-      let v = ap length e in
-      let g : length (take i list ++ (at ∷ r.len ∷ cond r.kept 1 0 ∷ [])) ≡ i + 3 = omega arith in
+      let t : take (i + 3) (put_mid i (i + 3 - i) list row) ≡ take i list ++ row = take-put_mid i (i + 3 - i) list row (i + 3) (omega arith) (omega arith) in
+      let d : drop (i + 3) (put_mid i (i + 3 - i) list row) ≡ drop (i + 3) list = drop-put_mid i (i + 3 - i) list row (i + 3) (omega arith) (omega arith) (omega arith) in
+      let n = length-append (take (i + 3) (put_mid i (i + 3 - i) list row)) (drop (i + 3) (put_mid i (i + 3 - i) list row)) in
+      let u = length-append (take i list) row in
+      let v = length-take-le i list (omega arith) in
+      let x = length-drop (i + 3) list in
+      let y = ap length t in
+      let w = ap length d in
+      let q = ap length (take-append-drop (i + 3) (put_mid i (i + 3 - i) list row)) in
       record {
-        within = n.within;
+        placed = omega arith;
         left = omega arith;
-        done = f.done ∙ rw (one, e, take_at (take i list ++ (at ∷ r.len ∷ cond r.kept 1 0 ∷ [])) (drop (i + 3) list) (i + 3) g) (sym (append_assoc (take i list) row (rows (at + r.len) (cut (drop (at + r.len) dump)))));
-        same = rw (e, drop_at (take i list ++ (at ∷ r.len ∷ cond r.kept 1 0 ∷ [])) (drop (i + 3) list) (i + 3) g) (sym (drop-drop 3 i list) ∙ ap (drop 3) f.same ∙ drop-drop 3 i list₀);
+        done = f.done ∙ rw (t, e) (sym (append_assoc (take i list) (at ∷ r.len ∷ bool_byte r.kept ∷ []) (range_rows (at + r.len) rs)));
+        same = d ∙ sym (drop-drop 3 i list) ∙ ap (drop 3) f.same ∙ drop-drop 3 i list₀;
         sized = omega arith;
       }
 
-  pub filling_end : length dump ≤ at → list ≡ rows 0 (cut dump) ++ drop (length (rows 0 (cut dump))) list₀
-  unfolding rows
-  filling_end h =
-      let none = ap (rows at) (cut-end dump at h) in
-      let l = ap length none in
+  pub filling_end : Filling dump list₀ list i at [] → list ≡ rows 0 (cut dump) ++ drop (length (rows 0 (cut dump))) list₀
+  filling_end f =
       let m = f.left in
       let j : i ≡ length (rows 0 (cut dump)) = omega arith in
-      let d : rows 0 (cut dump) ≡ take i list = f.done ∙ ap (λ (q : List ℕ). take i list ++ q) none ∙ append-nil (take i list) in
+      let d : rows 0 (cut dump) ≡ take i list = f.done ∙ append-nil (take i list) in
       sym (take-append-drop i list) ∙ rw (f.same, ← d) (ap (λ (k : ℕ). rows 0 (cut dump) ++ drop k list₀) j)

@@ -13,7 +13,7 @@ use Rattle.scan.specs.Cut.{passes, run, Piece, kept, skipped, cut, text, frames,
 use Rattle.scan.specs.Step.{skipped_length}
 use Rattle.scan.specs.Listed.{listed_at}
 use Rattle.scan.specs.declared.listed.Listed.{Listed}
-use Rattle.scan.proofs.RunLaws.{by_cases, passed, kept-nothing}
+use Rattle.scan.proofs.RunLaws.{by_cases, passed}
 use Rattle.scan.proofs.Ranges.{joined, run-taken, covers}
 use Rattle.scan.proofs.CutLaws.{cut-nothing, cut-kept, cut-skips, first-moves, skips-within, skips-none, skips-one}
 
@@ -91,7 +91,7 @@ module _ (s : List ℕ) (p : Piece) (ps : List Piece) (e : cut s ≡ p ∷ ps) w
           (λ k. is-first (kept (run s)) (k, refl) (cut-kept s k))
           (λ k.
           let l : 0 < length s = rw z (omega arith) in
-          let m = first-moves s l (kept-nothing s k) in
+          let m = first-moves s l k in
           let w = length-take-le (skipped_length s) s (skips-within s) in
           is-first (skipped (take (skipped_length s) s)) (m, refl) (rw w (cut-skips s m)))
 

@@ -1,6 +1,6 @@
 -- Laws of a run: what passing checks 1 to 3 says, in the numbers that the code compares, and what it means to the frame layer's reader.
 -- Assumes nothing.
-use Prim.Native.Nat.{ℕ, ◌+◌, ◌-◌, ◌≤◌, ◌<◌}
+use Prim.Native.Nat.{ℕ, ◌+◌, ◌-◌, ◌≤◌}
 use mathlib.Core.Path.{◌≡◌, refl, sym, ap, ◌∙◌}
 use mathlib.Core.Logic.{◌⊎◌, inl, inr}
 use mathlib.Core.List.{List}
@@ -19,6 +19,7 @@ use Rattle.edm.specs.Frame.{delimited, length_field, payload, read_frame}
 use Rattle.edm.proofs.FrameLaws.{payload-length}
 use Rattle.scan.specs.Cut.{passes, run}
 use Rattle.scan.specs.Step.{kept_length}
+use Rattle.std.specs.Prelude.{Some, None, is_some}
 
 -- a test holds or fails
 pub by_cases : {P : Type 0} (v : Bool) → (v ≡ true → P) → (v ≡ false → P) → P
@@ -153,23 +154,35 @@ module _ (s : List ℕ) where
       })
 
   -- the answers of the code
-  pub kept_whole : Stands s → kept_length s ≡ length_field s + 4
+  pub kept_whole : Stands s → kept_length s ≡ Some (length_field s + 4)
   unfolding kept_length
-  kept_whole h = rw (stands_passes h) (run_length h.whole)
+  kept_whole h = rw (stands_passes h, run_length h.whole)
 
-  pub kept-nothing : passes (run s) ≡ false → kept_length s ≡ 0
+  pub kept-none : (Stands s → ⊥) → kept_length s ≡ None
   unfolding kept_length
-  kept-nothing e = rw e
-
-  pub kept-none : (Stands s → ⊥) → kept_length s ≡ 0
-  kept-none h = by_cases (passes (run s)) (λ e. absurd (h (stands e))) kept-nothing
+  kept-none h = by_cases (passes (run s)) (λ e. absurd (h (stands e))) (λ e. rw e)
 
   -- and back
-  pub is-kept : 0 < kept_length s → passes (run s) ≡ true
-  is-kept h = by_cases (passes (run s)) (λ e. e) (λ e. let z = kept-nothing e in absurd (omega arith))
+  pub is-kept : (n : ℕ) → kept_length s ≡ Some n → (passes (run s) ≡ true) × (n ≡ length (run s))
+  unfolding kept_length
+  is-kept n = go (passes (run s)) refl
+    where
+      go : (v : Bool) → passes (run s) ≡ v → cond v (Some (length (run s))) None ≡ Some n → (passes (run s) ≡ true) × (n ≡ length (run s))
+      go true e q = (e, cc)
+      go false e q = absurd cc
 
-  pub is_skipped : kept_length s ≡ 0 → passes (run s) ≡ false
-  is_skipped h = by_cases (passes (run s)) (λ e. let z = kept_whole (stands e) in absurd (omega arith)) (λ e. e)
+  pub is_skipped : kept_length s ≡ None → passes (run s) ≡ false
+  unfolding kept_length
+  is_skipped = go (passes (run s)) refl
+    where
+      go : (v : Bool) → passes (run s) ≡ v → cond v (Some (length (run s))) None ≡ None → passes (run s) ≡ false
+      go true e q = absurd cc
+      go false e q = e
 
-  pub kept-length : passes (run s) ≡ true → length (run s) ≡ kept_length s
-  kept-length e = run_length (stands e).whole ∙ sym (kept_whole (stands e))
+  pub runs_here : (b : Bool) → b ≡ is_some (kept_length s) → passes (run s) ≡ b
+  unfolding kept_length
+  runs_here b = go (passes (run s)) refl
+    where
+      go : (v : Bool) → passes (run s) ≡ v → b ≡ is_some (cond v (Some (length (run s))) None) → passes (run s) ≡ b
+      go true e q = e ∙ sym q
+      go false e q = e ∙ sym q

@@ -20,7 +20,7 @@ pub struct Kept {
 fn number(list: &[u32], k: usize) -> usize
     ensures { result ≡ get_or list.now k 0 }
 {
-    if k < list.len() { list[k] as usize } else { 0 }
+    list.get(k).copied().unwrap_or(0) as usize
 }
 
 // The range `i` of a list, counted from 0; past the list's end an empty one that is skipped.
@@ -45,15 +45,13 @@ pub fn range_at(list: &[u32], i: usize) -> Listed
 pub fn next_kept(list: &[u32], count: usize, i: usize) -> Option<Kept>
     ensures { result ≡ next_kept list.now count i }
 {
-    let mut at = i;
-    while at < count {
+    for at in i..count {
         let r = range_at(list, at);
-        at += 1;
         if r.kept {
             return Some(Kept {
                 start: r.start,
                 len: r.len,
-                next: at,
+                next: at + 1,
             });
         }
     }

@@ -12,21 +12,22 @@ pub fn decided_places(len: usize, is_end: bool) -> usize
     ensures { result ≡ decided_places len is_end }
 {
     if is_end {
-        return len;
+        len
+    } else {
+        len.saturating_sub(WAITING)
     }
-    if len < WAITING { 0 } else { len - WAITING }
 }
 
 // How many bytes at the front of a range of the window are decided: of a kept one all or none. The next window begins after them.
 pub fn decided_bytes(r: Listed, places: usize) -> usize
     ensures { result ≡ decided_bytes r places }
 {
-    if places <= r.start {
-        return 0;
+    let room = places.saturating_sub(r.start);
+    if !r.kept {
+        r.len.min(room)
+    } else if 0 < room {
+        r.len
+    } else {
+        0
     }
-    if r.kept {
-        return r.len;
-    }
-    let room = places - r.start;
-    if r.len <= room { r.len } else { room }
 }

@@ -1,34 +1,20 @@
 use native.Mathlib.Omega.{arith}
-use mathlib.Core.Path.{ap, ◌∙◌}
-use lib.ListN.{length, length-drop}
-use Rattle.scan.proofs.CutLaws.{rest, Next, next, cut-end}
+use mathlib.Core.Path.{refl, ◌∙◌}
+use mathlib.Core.Logic.{inl}
+use Rattle.std.proofs.lemmas.Iterator.Consumers.{count_from_yields_List, YieldsList-from_first}
+use Rattle.std.proofs.lemmas.List.{length-map}
+use Rattle.scan.specs.Cut.{cut}
+use Rattle.scan.specs.Step.{range_of, ranges_of}
+use Rattle.scan.specs.declared.run.Ranges.{Ranges}
+use Rattle.scan.specs.declared.run.Range.{Range}
+use Rattle.scan.proofs.FillLaws.{few_left}
 use Rattle.scan.proofs.fill.count.Goals as goal
-use Rattle.scan.proofs.fill.count.Goals.{After-first-r}
 
-next-range : (c : After-first-r) → Next c.args.dump.now c.loop-at.at c.first-r.result
-next-range c = next c.args.dump.now c.loop-at.at c.part.result.now c.first-r.result c.loop-at.invariant.0 c.part.ensures c.first-r.ensures
-
-pub loop-at-init : goal.loop-at-init
-loop-at-init c = (omega arith, omega arith, omega arith)
-
-pub first-r-requires : goal.first-r-requires
-first-r-requires c = let l = ap length (c.part.ensures ∙ rest c.args.dump.now c.loop-at.at) ∙ length-drop c.loop-at.at c.args.dump.now in omega arith
-
-pub overflow_add-n : goal.overflow_add-n
-overflow_add-n c = omega arith
-
-pub overflow_add-at : goal.overflow_add-at
-overflow_add-at c = let n = next-range (goal.at.overflow_add-at c).After-first-r in let w = n.within in omega arith
-
-pub loop-at-smaller : goal.loop-at-smaller
-loop-at-smaller c = let n = next-range (goal.at.loop-at-smaller c).After-first-r in let w = n.within in let m = n.moves in omega arith
-
-pub loop-at-preserved : goal.loop-at-preserved
-loop-at-preserved c = let n = next-range (goal.at.loop-at-preserved c).After-first-r in
-    let w = n.within in
-    let m = n.moves in
-    let l = ap length n.cuts in
-    (omega arith, omega arith, omega arith)
+pub count-requires-clause-fits : goal.count-requires-clause-fits
+count-requires-clause-fits c = inl (omega (arith, few_left c.args.dump.now))
 
 pub returns : goal.returns
-returns c = let l = ap length (cut-end c.args.dump.now c.loop-at.at c.loop-at-test.false) in omega arith
+returns c =
+    let d = c.args.dump.now in
+    count_from_yields_List _ _ c.count.ensures.ran (YieldsList-from_first (λ (r : Range). r) (λ (s : Ranges). ranges_of s.left.now) (ranges_of d) refl)
+    ∙ length-map (cut d) range_of
