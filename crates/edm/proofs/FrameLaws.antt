@@ -4,7 +4,7 @@ use mathlib.Core.Path.{◌≡◌, refl, ◌∙◌}
 use mathlib.Core.List.{List}
 use mathlib.Core.Bool.{Bool, true, false, cond}
 use native.Mathlib.Omega.{arith}
-use lib.Dec.{ltb}
+use lib.Dec.{eqb, ltb}
 use lib.ListN.{length, take, length-drop}
 use lib.Seq.{length-take-le}
 use borrow.Author.Tests.{eqb-true, ltb-false}
@@ -28,5 +28,5 @@ module _ (s : List ℕ) where
   pub accepted-length : (p : Packet) → read_frame s ≡ good p → length s ≡ length_field s + 4
   unfolding read_frame
   accepted-length p e =
-      let passed = accepted (delimited s) (ltb (length s) 6) _ _ p e in
+      let passed = accepted (delimited s) (ltb (length s) 6) (eqb (length_field s) (length (payload s) + 2)) _ p e in
       omega (arith, ltb-false (length s) 6 passed.0, eqb-true (length_field s) (length (payload s) + 2) passed.1, payload-length)

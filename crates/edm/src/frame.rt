@@ -35,13 +35,13 @@ pub fn read(s: &[u8]) -> Result<EdmPacket, EdmPacketError>
     let [0xAA, .., 0x55] = s else {
         return Err(EdmPacketError::PacketDecodeFramingInvalid);
     };
-    let [_, high, low, first, second, payload @ .., _] = s else {
+    let [_, length_high, length_low, id_high, id_low, payload @ .., _] = s else {
         return Err(EdmPacketError::PacketDecodeTargetMemorySizeInvalid);
     };
     // The top 4 bits of the length are reserved.
-    let length = u16::from_be_bytes([*high, *low]) % 4096;
+    let length = u16::from_be_bytes([*length_high, *length_low]) % 4096;
     if usize::from(length) != payload.len() + 2 {
         return Err(EdmPacketError::PacketTypeDecodeLengthMismatch);
     }
-    payload_of(&s[..s.len() - 1], u16::from_be_bytes([*first, *second]))
+    payload_of(&s[..s.len() - 1], u16::from_be_bytes([*id_high, *id_low]))
 }
