@@ -13,7 +13,8 @@ use Rattle.text.specs.Find.{crlf, first_from}
 use Rattle.text.specs.Bytes.{part}
 use Rattle.text.specs.Field.{fields_from}
 use Rattle.text.specs.FieldSteps.{left as fields_left}
-use Rattle.std.specs.Prelude.{Some, None}
+use Rattle.std.specs.Prelude.{Option, Some, None}
+use Rattle.std.specs.Option.{unwrap_or}
 use Rattle.text.proofs.FieldLaws.{left_in}
 use Rattle.text.proofs.FindLaws.{from_at}
 use Rattle.at.specs.Refusal.{Refusal}
@@ -51,14 +52,18 @@ module _ (s : List ℕ) (from : ℕ) where
 
   -- up to the next CR LF
   module _ (u : List ℕ) (e : u ≡ take (length s - 2) s) where
-    pub text-found : (i : ℕ) → first_from crlf u (from + 2) ≡ Some i → 2 ≤ length (drop from s) → drop (from + 2) (take i s) ≡ before crlf (inner (drop from s))
+    text-found : (i : ℕ) → first_from crlf u (from + 2) ≡ Some i → 2 ≤ length (drop from s) → drop (from + 2) (take i s) ≡ before crlf (inner (drop from s))
     text-found i f h =
         let l : length u ≡ length s - 2 = ap length e ∙ length-take-le (length s - 2) s (omega arith) in
         let b : i < length u = (from_at crlf u (from + 2) i f).1 in
         rw (inner_here h, ← take_less i (length s - 2) s (omega arith), ← e) (before-found crlf u (from + 2) i f)
 
-    pub text_to_end : first_from crlf u (from + 2) ≡ None → 2 ≤ length (drop from s) → drop (from + 2) (take (length s - 2) s) ≡ before crlf (inner (drop from s))
+    text_to_end : first_from crlf u (from + 2) ≡ None → 2 ≤ length (drop from s) → drop (from + 2) (take (length s - 2) s) ≡ before crlf (inner (drop from s))
     text_to_end f h = rw (inner_here h, ← e) (before-end crlf u (from + 2) f)
+
+    pub text-ends : (o : Option ℕ) → o ≡ first_from crlf u (from + 2) → 2 ≤ length (drop from s) → drop (from + 2) (take (unwrap_or o (length s - 2)) s) ≡ before crlf (inner (drop from s))
+    text-ends (Some i) f h = text-found i (sym f) h
+    text-ends None f h = text_to_end (sym f) h
 
 -- the text before a marker, which stands m bytes after a place
 module _ (s u : List ℕ) (start m : ℕ) (h : start + m ≤ length s) (e : u ≡ part s 0 (start + m)) where

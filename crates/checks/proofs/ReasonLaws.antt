@@ -3,6 +3,9 @@ use Prim.Native.Nat.{ℕ, ◌+◌, ◌-◌, ◌≤◌, ◌<◌}
 use mathlib.Core.Path.{◌≡◌, refl, ◌∙◌}
 use mathlib.Core.List.{List, [], ◌∷◌}
 use mathlib.Core.Bool.{Bool, true, false, cond, false≢true}
+use native.Mathlib.Omega.{arith}
+use Rattle.std.specs.Prelude.{◌⊎◌}
+use Rattle.std.proofs.Common.{inl, inr}
 use lib.Dec.{eqb}
 use lib.ListN.{length, drop}
 use borrow.Author.Tests.{ne_eqb, eqb-true, le-leb, lt-leb, lt-ltb, le-ltb}
@@ -10,8 +13,10 @@ use lib.Seq.{drop-drop}
 use Rattle.text.specs.Bytes.{starts_with}
 use Rattle.text.specs.Find.{crlf, first_of}
 use Rattle.text.specs.Utf8.{valid_up_to, inside_character}
-use Rattle.text.specs.Field.{fields_from}
-use Rattle.at.specs.Refusal.{Refusal, number_of}
+use Rattle.text.specs.Field.{Field, fields_from}
+use Rattle.at.specs.Refusal.{Refusal, number_of, refusal_of}
+use Rattle.at.specs.declared.AtPacketError.{AtPacketError}
+use Rattle.at.specs.declared.AtPacketError.TheVariants as error
 use Rattle.at.specs.Line.{fields_after}
 use Rattle.at.specs.Event.{Row}
 use Rattle.at.specs.Binary.{marker, prefix}
@@ -22,8 +27,38 @@ use Rattle.checks.specs.Check.{broken}
 use Rattle.checks.specs.Line.{inner}
 use Rattle.checks.specs.Binary.{field_text, after_marker}
 use Rattle.checks.specs.Frame.{carried_by}
-use Rattle.checks.specs.Steps.{text_reason, framing_reason, line_reason, response_reason, data_reason, body_reason, binary_reason, delimiter_reason, is_connect, is_response, size_reason, at_reason}
+use Rattle.checks.specs.Steps.{start_no, text_reason, framing_reason, line_reason, response_reason, data_reason, body_reason, binary_reason, delimiter_reason, is_connect, is_response, size_reason, at_reason}
 use Rattle.checks.specs.declared.CheckName.TheVariants as check
+
+-- the two refusals that the code tells by their names, and that no other has their numbers
+pub eleven : (e : AtPacketError) → e ≡ error.Utf8DecodeFailed → number_of (refusal_of e) ≡ 11
+eleven e h = rw h
+
+pub twelve : (e : AtPacketError) → e ≡ error.FramingDecodeFailed → number_of (refusal_of e) ≡ 12
+twelve e h = rw h
+
+pub not_eleven : (e : AtPacketError) → (e ≡ error.Utf8DecodeFailed → ⊥) → number_of (refusal_of e) ≡ 11 → ⊥
+not_eleven error.Utf8DecodeFailed h q = h refl
+not_eleven error.FramingDecodeFailed h q = omega (arith, q)
+not_eleven error.TypeDecodeUnsupported h q = omega (arith, q)
+not_eleven (error.TypeDecodeParameterMissing field) h q = omega (arith, q)
+not_eleven (error.TypeDecodeParameterDataTypeInvalid field why) h q = omega (arith, q)
+not_eleven error.EventUnknown h q = omega (arith, q)
+
+pub not_twelve : (e : AtPacketError) → (e ≡ error.FramingDecodeFailed → ⊥) → number_of (refusal_of e) ≡ 12 → ⊥
+not_twelve error.Utf8DecodeFailed h q = omega (arith, q)
+not_twelve error.FramingDecodeFailed h q = h refl
+not_twelve error.TypeDecodeUnsupported h q = omega (arith, q)
+not_twelve (error.TypeDecodeParameterMissing field) h q = omega (arith, q)
+not_twelve (error.TypeDecodeParameterDataTypeInvalid field why) h q = omega (arith, q)
+not_twelve error.EventUnknown h q = omega (arith, q)
+
+-- a refusal of a text that carries nothing
+pub of-type : (p end : ℕ) (fs : List Field) (e : AtPacketError) → (e ≡ error.TypeDecodeUnsupported) ⊎ ((e ≡ error.Utf8DecodeFailed) ⊎ (e ≡ error.FramingDecodeFailed))
+    → broken (check.FieldType 2) (refusal_of e) (start_no 1 fs) ≡ text_reason p end fs (refusal_of e)
+of-type p end fs e (inl h) = rw h
+of-type p end fs e (inr (inl h)) = rw h
+of-type p end fs e (inr (inr h)) = rw h
 
 -- a line
 module _ (p : ℕ) (line : List ℕ) (n : Refusal) where

@@ -2,6 +2,7 @@
 use Prim.Native.Nat.{ℕ, zero, suc, ◌+◌, ◌-◌, ◌≤◌, ◌<◌}
 use mathlib.Core.Path.{◌≡◌, refl, sym, ap, ◌∙◌}
 use mathlib.Core.List.{List, [], ◌∷◌}
+use mathlib.Core.Bool.{true, false, false≢true}
 use native.Mathlib.Nat.{le_of_suc-le-suc}
 use native.Mathlib.Omega.{arith}
 use lib.ListN.{length, take, drop, get_or, length-drop}
@@ -11,7 +12,8 @@ use Rattle.text.specs.Bytes.{bytes, part}
 use Rattle.text.specs.Find.{first_of, first_from}
 use Rattle.text.specs.Field.{field, next_field}
 use Rattle.text.specs.FieldSteps.{left}
-use Rattle.std.specs.Prelude.{Some, None}
+use Rattle.std.specs.Prelude.{Option, Some, None, is_some}
+use Rattle.std.specs.Option.{unwrap_or}
 use Rattle.text.specs.declared.field.Fields.{Fields}
 use Rattle.text.specs.declared.field.Next.{Next}
 use Rattle.text.proofs.FieldLaws.{step_left, left_in, left_out}
@@ -38,7 +40,7 @@ rest-length s t start e = ap length (e ∙ part-rest s start) ∙ length-drop st
 
 -- the fields of a text, from the answer of a search for its colon
 module _ (s : List ℕ) (start : ℕ) where
-  pub after_colon : (i : ℕ) → first_from (bytes ":") s start ≡ Some i → left s (record { at = i + 1 }) ≡ fields_after start (drop start s)
+  after_colon : (i : ℕ) → first_from (bytes ":") s start ≡ Some i → left s (record { at = i + 1 }) ≡ fields_after start (drop start s)
   unfolding fields_after
   after_colon i e =
       let f = from_at (bytes ":") s start i e in
@@ -48,10 +50,20 @@ module _ (s : List ℕ) (start : ℕ) where
       rw (lt-ltb (first_of (bytes ":") (drop start s)) (length (drop start s)) (omega (arith, f.1, length-drop start s)), l, drop-drop (first_of (bytes ":") (drop start s) + 1) start s, m)
       (left_in s (record { at = i + 1 }) (omega (arith, f.1)))
 
-  pub no_colon : first_from (bytes ":") s start ≡ None → left s (record { at = length s + 1 }) ≡ fields_after start (drop start s)
+  no_colon : first_from (bytes ":") s start ≡ None → left s (record { at = length s + 1 }) ≡ fields_after start (drop start s)
   unfolding fields_after
   no_colon e =
       rw (le-ltb (first_of (bytes ":") (drop start s)) (length (drop start s)) (not_found (bytes ":") s start e)) (left_out s (record { at = length s + 1 }) (omega arith))
+
+-- either way
+module _ (s : List ℕ) (start : ℕ) where
+  pub past_colon : (o : Option ℕ) → o ≡ first_from (bytes ":") s start → left s (record { at = unwrap_or o (length s) + 1 }) ≡ fields_after start (drop start s)
+  past_colon (Some i) e = after_colon s start i (sym e)
+  past_colon None e = no_colon s start (sym e)
+
+  pub colon-inside : (o : Option ℕ) → o ≡ first_from (bytes ":") s start → unwrap_or o (length s) ≤ length s
+  colon-inside (Some i) e = let f = from_at (bytes ":") s start i (sym e) in omega (arith, f.1)
+  colon-inside None e = omega arith
 
 -- the front of a text, and the byte past its end
 pub part_front : (s : List ℕ) (n : ℕ) → part s 0 n ≡ take n s
@@ -69,3 +81,11 @@ found_first t s {i} e = let r = from_at t s 0 i e in let m : i ≡ first_of t s 
 
 pub found_nowhere : (t s : List ℕ) → first_from t s 0 ≡ None → length s ≤ first_of t s
 found_nowhere t s e = not_found t s 0 e
+
+pub found_some : (t s : List ℕ) (o : Option ℕ) → o ≡ first_from t s 0 → is_some o ≡ true → first_of t s < length s
+found_some t s (Some i) e h = (found_first t s (sym e)).1
+found_some t s None e h = absurd (false≢true h)
+
+pub found-none : (t s : List ℕ) (o : Option ℕ) → o ≡ first_from t s 0 → is_some o ≡ false → length s ≤ first_of t s
+found-none t s (Some i) e h = absurd (false≢true (sym h))
+found-none t s None e h = found_nowhere t s (sym e)

@@ -14,7 +14,9 @@ use Rattle.text.proofs.BytesLaws.{same_equal}
 use Rattle.text.proofs.Bools.{and_left, and_right}
 use Rattle.at.specs.Refusal.{no, missing, invalid, OrRefused, good, refused}
 use Rattle.at.specs.Event.{Kind, Row, name_of, kinds_of, Event, Read, values, read_field, take_kind, take_kinds, with_values, read_row}
-use Rattle.at.specs.Line.{before, rows_named, fields_after, by_type, by_name, read_text}
+use Rattle.std.specs.Prelude.{◌⊎◌}
+use Rattle.std.proofs.Common.{inl, inr}
+use Rattle.at.specs.Line.{Radio, before, rows_named, fields_after, by_type, by_name, read_text}
 use Rattle.at.specs.W26 as w26
 use Rattle.at.specs.W26.{UUDPC, UUDPC-BT}
 use Rattle.at.specs.W36 as w36
@@ -246,3 +248,8 @@ text-found rows chooses p t = go (rows_named rows (before (bytes ":") t)) (choos
         let fs = fields_after p t in
         rw (c.kinds, c.reads)
         (fields-found (FieldType 2) (start_of (after fs)) 1 (p + length t) ks fs (second_type ks fs c.second) ∙ row-found p t c.row (take_kinds 1 ks fs) (fields_late 1 ks fs))
+
+-- either radio's
+pub known_chooses : (r : Radio) → (r ≡ w26.w26) ⊎ (r ≡ w36.w36) → Chooses r.rows
+known_chooses r (inl e) = rw e w26_chooses
+known_chooses r (inr e) = rw e w36_chooses

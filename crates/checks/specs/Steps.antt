@@ -21,6 +21,11 @@ use Rattle.checks.specs.Binary.{field_text, after_marker}
 use Rattle.checks.specs.Frame.{carried_by}
 use Rattle.checks.specs.declared.CheckName.{CheckName}
 use Rattle.checks.specs.declared.CheckName.TheVariants as check
+use Rattle.checks.specs.declared.Reason.{Reason}
+
+-- what a reason says of a refusal
+abbrev pub told : Reason → Refusal → Finding
+told r n = broken r.check n r.byte
 
 -- the start of a field, counted from 0
 abbrev pub start_no : ℕ → List Field → ℕ

@@ -4,16 +4,13 @@ ghost use Rattle.at.specs.Refusal.{Refusal, refusal_of};
 ghost use Rattle.at.specs.Event.{event_to};
 ghost use Rattle.at.specs.Binary.{try_rows};
 ghost use Rattle.at.specs.W36.{binary_table, event_of};
-ghost use Rattle.checks.specs.Check.{broken};
 ghost use Rattle.checks.specs.Binary.{binary_checks};
 ghost use Rattle.checks.specs.Part.{binary_shape, parts_by};
 ghost use Rattle.checks.specs.Explained.{ExplainsBinary, shown_binary};
-ghost use Rattle.checks.specs.Steps.{data_reason, body_reason, binary_reason};
+ghost use Rattle.checks.specs.Steps.{told, data_reason, body_reason, binary_reason};
 
 use crate::field::text_reason;
 use crate::part::{PartWalk, Shape};
-use crate::refusal::at_number;
-use crate::slot::less;
 use crate::{Accepted, CheckName, Reason, Refused};
 use at::parts::Parts;
 use at::w36::{ATEvent, try_parse_binary};
@@ -27,14 +24,14 @@ fn shape_of(event: ATEvent, n: usize, past: usize) -> Shape
     ensures { result ≡ binary_shape n (event_to (event_of event) past) }
 {
     Shape::Binary {
-        fields: less(Parts::from(event).value_count(), 1) as u8,
-        but: less(n, past),
+        fields: Parts::from(event).value_count().saturating_sub(1) as u8,
+        but: n.saturating_sub(past),
     }
 }
 
 // The bytes after the marker, of an input that ends at `end`.
 fn data_reason(t: &[u8], end: usize) -> Reason
-    ensures { (n : Refusal) → broken result.check n result.byte ≡ data_reason end t.now n }
+    ensures { (n : Refusal) → told result n ≡ data_reason end t.now n }
 {
     if t.len() < 2 {
         Reason {
@@ -51,9 +48,8 @@ fn data_reason(t: &[u8], end: usize) -> Reason
 
 // What follows the colon, from `start` on.
 fn body_reason(s: &[u8], start: usize, e: AtPacketError) -> Reason
-    ensures { broken result.check (refusal_of e) result.byte ≡ body_reason start (drop start s.now) (refusal_of e) }
+    ensures { told result (refusal_of e) ≡ body_reason start (drop start s.now) (refusal_of e) }
 {
-    let number = at_number(e);
     let t = part(s, start, s.len());
     let end = start + t.len();
     let Some(m) = first_byte(t, 0, 1) else {
@@ -62,31 +58,29 @@ fn body_reason(s: &[u8], start: usize, e: AtPacketError) -> Reason
             byte: end,
         };
     };
-    if number == 11 {
-        return Reason {
+    match e {
+        AtPacketError::Utf8DecodeFailed => Reason {
             check: CheckName::Utf8,
             byte: start + valid_up_to(part(t, 0, m)),
-        };
+        },
+        AtPacketError::FramingDecodeFailed => data_reason(part(t, m + 1, t.len()), end),
+        _ => text_reason(part(s, 0, start + m), start, start, e),
     }
-    if number == 12 {
-        return data_reason(part(t, m + 1, t.len()), end);
-    }
-    text_reason(part(s, 0, start + m), start, start, e)
 }
 
 // The event that starts at `from`, by its name.
 fn reason_of(s: &[u8], from: usize, e: AtPacketError) -> Reason
-    ensures { broken result.check (refusal_of e) result.byte ≡ binary_reason binary_table from (drop from s.now) (refusal_of e) }
+    ensures { told result (refusal_of e) ≡ binary_reason binary_table from (drop from s.now) (refusal_of e) }
 {
     if starts_at(s, from, b"\r\n+UESODB:") {
-        return body_reason(s, from + 10, e);
-    }
-    if starts_at(s, from, b"\r\n+UESODBF:") {
-        return body_reason(s, from + 11, e);
-    }
-    Reason {
-        check: CheckName::Marker,
-        byte: from,
+        body_reason(s, from + 10, e)
+    } else if starts_at(s, from, b"\r\n+UESODBF:") {
+        body_reason(s, from + 11, e)
+    } else {
+        Reason {
+            check: CheckName::Marker,
+            byte: from,
+        }
     }
 }
 
@@ -99,18 +93,13 @@ pub fn explain(
 {
     match try_parse_binary(s, from) {
         Ok(None) => Ok(None),
-        Ok(Some(answer)) => Ok(Some(Accepted {
-            answer,
-            fields: PartWalk {
-                framed: false,
-                shape: shape_of(answer.event, s.len(), answer.past),
-                turn: 0,
-                at: from,
-            },
-        })),
-        Err(error) => {
-            let Reason { check, byte } = reason_of(s, from, error);
-            Err(Refused { error, check, byte })
+        Ok(Some(answer)) => {
+            let shape = shape_of(answer.event, s.len(), answer.past);
+            Ok(Some(Accepted {
+                answer,
+                fields: PartWalk::over(false, shape, from),
+            }))
         }
+        Err(error) => Err(reason_of(s, from, error).refuses(error)),
     }
 }

@@ -3,8 +3,7 @@ ghost use Rattle.std.specs.Prelude.{◌≡◌, ◌+◌, ◌-◌, length, drop};
 ghost use Rattle.text.specs.FieldSteps.{left};
 ghost use Rattle.at.specs.Refusal.{refusal_of};
 ghost use Rattle.at.specs.Line.{fields_after};
-ghost use Rattle.checks.specs.Check.{broken};
-ghost use Rattle.checks.specs.Steps.{start_no, form_check, text_reason};
+ghost use Rattle.checks.specs.Steps.{told, start_no, form_check, text_reason};
 
 use crate::{CheckName, Reason};
 use at::{AtPacketError, FieldError};
@@ -17,11 +16,9 @@ fn form_check(field: u8, why: FieldError) -> CheckName
     ensures { result ≡ form_check field why }
 {
     match why {
-        FieldError::NoNumber(e) => match e {
-            NumberError::Empty => CheckName::FieldEmpty(field),
-            NumberError::Byte => CheckName::FieldByte(field),
-            NumberError::Large => CheckName::FieldLarge(field),
-        },
+        FieldError::NoNumber(NumberError::Empty) => CheckName::FieldEmpty(field),
+        FieldError::NoNumber(NumberError::Byte) => CheckName::FieldByte(field),
+        FieldError::NoNumber(NumberError::Large) => CheckName::FieldLarge(field),
         FieldError::NotListed => CheckName::FieldListed(field),
     }
 }
@@ -31,13 +28,11 @@ fn nth_start(s: &[u8], start: usize, field: u8) -> usize
     ensures { result ≡ start_no (field - 1) (left s.now (record { at = start })) }
 {
     let mut at = start;
-    let mut i = 1;
-    while i < field {
+    for _ in 1..field {
         let Some(next) = field_at(s, at) else {
             return 0;
         };
         at = next.rest.at;
-        i += 1;
     }
     match field_at(s, at) {
         Some(next) => next.start,
@@ -49,25 +44,12 @@ fn nth_start(s: &[u8], start: usize, field: u8) -> usize
 pub(crate) fn fields_after(s: &[u8], start: usize) -> usize
     ensures { left s.now (record { at = result }) ≡ fields_after start (drop start s.now) }
 {
-    match first_byte(s, start, b':') {
-        Some(i) => i + 1,
-        None => s.len() + 1,
-    }
-}
-
-// The type of a peer stands in the second field.
-fn type_reason(s: &[u8], at: usize) -> Reason
-    ensures { result ≡ record { check = CheckName.FieldType 2; byte = start_no 1 (left s.now (record { at = at })) } }
-{
-    Reason {
-        check: CheckName::FieldType(2),
-        byte: nth_start(s, at, 2),
-    }
+    first_byte(s, start, b':').unwrap_or(s.len()) + 1
 }
 
 // The reason for which a text is refused, which goes from `start` to the end of `s` and has its fields from `at` on.
 pub(crate) fn text_reason(s: &[u8], start: usize, at: usize, e: AtPacketError) -> Reason
-    ensures { broken result.check (refusal_of e) result.byte ≡ text_reason start (start + length (drop start s.now)) (left s.now (record { at = at })) (refusal_of e) }
+    ensures { told result (refusal_of e) ≡ text_reason start (start + length (drop start s.now)) (left s.now (record { at = at })) (refusal_of e) }
 {
     match e {
         AtPacketError::TypeDecodeParameterMissing { field } => Reason {
@@ -82,9 +64,12 @@ pub(crate) fn text_reason(s: &[u8], start: usize, at: usize, e: AtPacketError) -
             check: CheckName::EventName,
             byte: start,
         },
-        AtPacketError::TypeDecodeUnsupported => type_reason(s, at),
-        // These two are not said of a text.
-        AtPacketError::Utf8DecodeFailed => type_reason(s, at),
-        AtPacketError::FramingDecodeFailed => type_reason(s, at),
+        // The type of a peer stands in the second field. The last two are not said of a text.
+        AtPacketError::TypeDecodeUnsupported
+        | AtPacketError::Utf8DecodeFailed
+        | AtPacketError::FramingDecodeFailed => Reason {
+            check: CheckName::FieldType(2),
+            byte: nth_start(s, at, 2),
+        },
     }
 }

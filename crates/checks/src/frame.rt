@@ -5,18 +5,17 @@ ghost use Rattle.edm.specs.Refusal.{refusal_of};
 ghost use Rattle.edm.specs.Packet.{packet_of};
 ghost use Rattle.edm.specs.Payload.{byte as byteIn, word};
 ghost use Rattle.edm.specs.Frame.{payload as payloadIn, read_frame};
-ghost use Rattle.checks.specs.Check.{broken};
 ghost use Rattle.checks.specs.Frame.{carried_by, frame_checks};
 ghost use Rattle.checks.specs.Part.{packet_shape, frame_parts};
 ghost use Rattle.checks.specs.Explained.{Explains, shown_frame};
-ghost use Rattle.checks.specs.Steps.{is_connect, is_response, delimiter_reason, size_reason, at_reason, frame_reason};
+ghost use Rattle.checks.specs.Steps.{told, is_connect, is_response, delimiter_reason, size_reason, at_reason, frame_reason};
 
-use crate::line::line_reason;
+use crate::line::{self, line_reason};
 use crate::part::{PartWalk, Shape};
-use crate::response::response_reason;
-use crate::slot::less;
+use crate::response::{self, response_reason};
 use crate::{Accepted, CheckName, Reason, Refused};
 use at::AtPacketError;
+use at::w26::ATEvent;
 use edm::frame::read;
 use edm::{EdmPacket, EdmPacketError};
 use text::bytes::part;
@@ -26,39 +25,32 @@ use text::utf8::valid_up_to;
 fn byte(s: &[u8], i: usize) -> u8
     ensures { result ≡ byteIn s.now i }
 {
-    if i < s.len() { s[i] } else { 0 }
-}
-
-fn wide(b: u8) -> u16
-    ensures { result ≡ b }
-{
-    b as u16
+    s.get(i).copied().unwrap_or(0)
 }
 
 fn identifier(s: &[u8]) -> u16
     ensures { result ≡ word s.now 3 }
 {
-    wide(byte(s, 3)) * 256 + wide(byte(s, 4))
+    u16::from_be_bytes([byte(s, 3), byte(s, 4)])
 }
 
 fn payload(s: &[u8]) -> &[u8]
     ensures { result.now ≡ payloadIn s.now }
 {
-    part(part(s, 0, less(s.len(), 1)), 5, s.len())
+    part(part(s, 0, s.len().saturating_sub(1)), 5, s.len())
 }
 
 // No AA first, no 55 last, or not even two bytes.
 fn delimiter_reason(s: &[u8]) -> Reason
-    ensures { (n : Refusal) → broken result.check n result.byte ≡ delimiter_reason s.now n }
+    ensures { (n : Refusal) → told result n ≡ delimiter_reason s.now n }
 {
     let n = s.len();
     if n < 2 {
-        return Reason {
+        Reason {
             check: CheckName::FrameOfTwo,
             byte: n,
-        };
-    }
-    if s[0] == 0xAA {
+        }
+    } else if s[0] == 0xAA {
         Reason {
             check: CheckName::EndByte,
             byte: n - 1,
@@ -73,7 +65,7 @@ fn delimiter_reason(s: &[u8]) -> Reason
 
 // A frame, or the payload of a connect or a data event, that is too short.
 fn size_reason(s: &[u8]) -> Reason
-    ensures { (n : Refusal) → broken result.check n result.byte ≡ size_reason s.now n }
+    ensures { (n : Refusal) → told result n ≡ size_reason s.now n }
 {
     let n = s.len();
     if n < 6 {
@@ -97,12 +89,12 @@ fn size_reason(s: &[u8]) -> Reason
 
 // A response or a W26 line that the AT layer refuses.
 fn at_reason(s: &[u8], e: AtPacketError) -> Reason
-    ensures { broken result.check (atRefusal e) result.byte ≡ at_reason s.now (atRefusal e) }
+    ensures { told result (atRefusal e) ≡ at_reason s.now (atRefusal e) }
 {
-    let t = part(s, 0, less(s.len(), 1));
+    let t = part(s, 0, s.len().saturating_sub(1));
     match identifier(s) {
         0x0045 => response_reason(t, 5, e),
-        _ => line_reason(t, 5, less(t.len(), 2), e),
+        _ => line_reason::<ATEvent>(t, 5, e),
     }
 }
 
@@ -116,7 +108,7 @@ fn at_payload_end(s: &[u8], check: CheckName) -> Reason
 }
 
 fn reason_of(s: &[u8], e: EdmPacketError) -> Reason
-    ensures { broken result.check (refusal_of e) result.byte ≡ frame_reason s.now (refusal_of e) }
+    ensures { told result (refusal_of e) ≡ frame_reason s.now (refusal_of e) }
 {
     match e {
         EdmPacketError::PacketDecodeFramingInvalid => delimiter_reason(s),
@@ -156,22 +148,13 @@ fn shape_of(packet: EdmPacket) -> Shape
     ensures { result ≡ packet_shape (packet_of packet) }
 {
     match packet {
-        EdmPacket::ConnectEvent {
-            channel: _,
-            event: _,
-        } => Shape::Connect,
-        EdmPacket::DisconnectEvent { channel: _ } => Shape::Disconnect,
-        EdmPacket::DataEvent {
-            channel: _,
-            data: _,
-        } => Shape::Data,
-        EdmPacket::DataCommand {
-            channel: _,
-            data: _,
-        } => Shape::Data,
+        EdmPacket::ConnectEvent { .. } => Shape::Connect,
+        EdmPacket::DisconnectEvent { .. } => Shape::Disconnect,
+        EdmPacket::DataEvent { .. } => Shape::Data,
+        EdmPacket::DataCommand { .. } => Shape::Data,
         EdmPacket::ATRequest(_) => Shape::Request,
-        EdmPacket::ATResponse(r) => crate::response::shape_of(r, 5),
-        EdmPacket::ATEvent(e) => crate::w26::shape_of(e, 3),
+        EdmPacket::ATResponse(r) => response::shape_of(r, 5),
+        EdmPacket::ATEvent(e) => line::shape_of(e, 3),
         EdmPacket::ResendConnectEvents => Shape::Bare,
         EdmPacket::StartEvent => Shape::Bare,
     }
@@ -183,16 +166,8 @@ pub fn explain(s: &[u8]) -> Result<Accepted<EdmPacket>, Refused<EdmPacketError>>
     match read(s) {
         Ok(answer) => Ok(Accepted {
             answer,
-            fields: PartWalk {
-                framed: true,
-                shape: shape_of(answer),
-                turn: 0,
-                at: 0,
-            },
+            fields: PartWalk::over(true, shape_of(answer), 0),
         }),
-        Err(error) => {
-            let Reason { check, byte } = reason_of(s, error);
-            Err(Refused { error, check, byte })
-        }
+        Err(error) => Err(reason_of(s, error).refuses(error)),
     }
 }

@@ -2,6 +2,8 @@
 // field came from. Every place counts from the start of the slice that was lent.
 #![tactic(auto)]
 
+ghost use Rattle.std.specs.Prelude.{◌≡◌};
+
 pub mod binary;
 mod field;
 pub mod frame;
@@ -68,4 +70,17 @@ pub struct Refused<E> {
 pub(crate) struct Reason {
     pub check: CheckName,
     pub byte: usize,
+}
+
+impl Reason {
+    // The refusal that has this reason.
+    fn refuses<E>(self, error: E) -> Refused<E>
+        ensures { result ≡ record { error = error; check = self.check; byte = self.byte } }
+    {
+        Refused {
+            error,
+            check: self.check,
+            byte: self.byte,
+        }
+    }
 }

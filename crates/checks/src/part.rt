@@ -2,7 +2,7 @@
 ghost use Rattle.std.specs.Prelude.{◌≡◌};
 ghost use Rattle.checks.specs.Part.{left, shown};
 
-use crate::slot::{Slot, slot_at, slot_count, span_of};
+use crate::slot::slot_at;
 use text::bytes::part;
 
 // What a field is. An event's fields are counted from 1.
@@ -59,39 +59,36 @@ pub struct PartStep {
 }
 
 impl PartWalk {
+    // The walk over all fields of an input that starts at a place.
+    pub(crate) fn over(framed: bool, shape: Shape, at: usize) -> Self
+        ensures { result ≡ record { framed = framed; shape = shape; turn = 0; at = at } }
+    {
+        Self {
+            framed,
+            shape,
+            turn: 0,
+            at,
+        }
+    }
+
     // The next field of the input `s`.
     pub fn next(self, s: &[u8]) -> Option<PartStep>
         ensures { shown s.now result ≡ left s.now self }
     {
-        let Self {
-            framed,
-            shape,
-            turn,
-            at,
-        } = self;
-        if slot_count(framed, shape) <= turn {
-            return None;
-        }
-        let Slot {
-            pass,
-            name,
-            len: size,
-        } = slot_at(framed, shape, turn);
-        let t = part(s, at, s.len());
-        let over = span_of(pass, t);
-        let len = span_of(size, part(t, over, t.len()));
-        let start = at + over;
-        let rest = Self {
-            framed,
-            shape,
-            turn: turn + 1,
-            at: start + len,
-        };
+        let slot = slot_at(self.framed, self.shape, self.turn)?;
+        let t = part(s, self.at, s.len());
+        let over = slot.pass.of(t);
+        let len = slot.len.of(part(t, over, t.len()));
+        let start = self.at + over;
         Some(PartStep {
-            name,
+            name: slot.name,
             start,
             len,
-            rest,
+            rest: Self {
+                turn: self.turn + 1,
+                at: start + len,
+                ..self
+            },
         })
     }
 }

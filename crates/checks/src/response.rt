@@ -2,15 +2,12 @@
 ghost use Rattle.std.specs.Prelude.{◌≡◌, drop};
 ghost use Rattle.at.specs.Refusal.{refusal_of};
 ghost use Rattle.at.specs.Response.{read_response, response_of};
-ghost use Rattle.checks.specs.Check.{broken};
 ghost use Rattle.checks.specs.Response.{response_checks};
 ghost use Rattle.checks.specs.Part.{response_shape, parts_by};
 ghost use Rattle.checks.specs.Explained.{Explains, shown_response};
-ghost use Rattle.checks.specs.Steps.{response_reason};
+ghost use Rattle.checks.specs.Steps.{told, response_reason};
 
 use crate::part::{PartWalk, Shape};
-use crate::refusal::at_number;
-use crate::slot::less;
 use crate::{Accepted, CheckName, Reason, Refused};
 use at::AtPacketError;
 use at::response::{ATResponse, read};
@@ -24,36 +21,33 @@ pub(crate) fn shape_of(r: ATResponse, from: usize) -> Shape
 {
     match r {
         ATResponse::Ok(t) => Shape::Response {
-            skip: less(t.start, from),
+            skip: t.start.saturating_sub(from),
             len: t.len,
         },
         ATResponse::Error => Shape::Bare,
         ATResponse::Other(t) => Shape::Response {
-            skip: less(t.start, from),
+            skip: t.start.saturating_sub(from),
             len: t.len,
         },
     }
 }
 
 pub(crate) fn response_reason(s: &[u8], from: usize, e: AtPacketError) -> Reason
-    ensures { broken result.check (refusal_of e) result.byte ≡ response_reason from (drop from s.now) (refusal_of e) }
+    ensures { told result (refusal_of e) ≡ response_reason from (drop from s.now) (refusal_of e) }
 {
     let t = part(s, from, s.len());
-    if at_number(e) == 11 {
-        return Reason {
+    match e {
+        AtPacketError::Utf8DecodeFailed => Reason {
             check: CheckName::Utf8,
             byte: from + valid_up_to(t),
-        };
-    }
-    let byte = from + t.len();
-    match first_crlf(t, 0) {
-        Some(_) => Reason {
-            check: CheckName::LastLineEnd,
-            byte,
         },
-        None => Reason {
+        _ if first_crlf(t, 0).is_some() => Reason {
+            check: CheckName::LastLineEnd,
+            byte: from + t.len(),
+        },
+        _ => Reason {
             check: CheckName::FirstLineEnd,
-            byte,
+            byte: from + t.len(),
         },
     }
 }
@@ -65,16 +59,8 @@ pub fn explain(s: &[u8], from: usize) -> Result<Accepted<ATResponse>, Refused<At
     match read(s, from) {
         Ok(answer) => Ok(Accepted {
             answer,
-            fields: PartWalk {
-                framed: false,
-                shape: shape_of(answer, from),
-                turn: 0,
-                at: from,
-            },
+            fields: PartWalk::over(false, shape_of(answer, from), from),
         }),
-        Err(error) => {
-            let Reason { check, byte } = response_reason(s, from, error);
-            Err(Refused { error, check, byte })
-        }
+        Err(error) => Err(response_reason(s, from, error).refuses(error)),
     }
 }

@@ -1,6 +1,6 @@
 // The slots into which an accepted input is cut.
-ghost use Rattle.std.specs.Prelude.{◌≡◌, ◌≤◌, ◌<◌, ◌-◌, [], ◌∷◌, length, get_or};
-ghost use Rattle.checks.specs.Slot.{span_of, slot as slotFor, field_slots, marked_slots, name_slot, marked_tail, shape_slots, end_slot, slots_of};
+ghost use Rattle.std.specs.Prelude.{◌≡◌, ◌≤◌, ◌<◌, length, map, slice_get, OnSome};
+ghost use Rattle.checks.specs.Slot.{span_of, slot as slotFor, fixed as fixedFor, marked_tail, name_slot, shape_slots, slots_of};
 
 use crate::part::{PartName, Shape};
 use text::bytes::part;
@@ -14,6 +14,23 @@ pub(crate) enum Span {
     UpTo(u8, usize),
 }
 
+impl Span {
+    // How many of these bytes it takes.
+    pub(crate) fn of(self, t: &[u8]) -> usize
+        ensures value { result ≡ span_of self t.now }
+        ensures within { result ≤ length t.now }
+    {
+        match self {
+            Self::Exactly(n) => part(t, 0, n).len(),
+            Self::AllBut(n) => t.len().saturating_sub(n),
+            Self::UpTo(b, n) => {
+                let u = part(t, 0, t.len().saturating_sub(n));
+                first_byte(u, 0, b).unwrap_or(u.len())
+            }
+        }
+    }
+}
+
 // What is passed over, the name of the field, and what it takes.
 #[derive(Clone, Copy)]
 pub(crate) struct Slot {
@@ -22,52 +39,36 @@ pub(crate) struct Slot {
     pub len: Span,
 }
 
-fn wide(x: u8) -> usize
-    ensures { (result ≡ x) × (result < 256) }
-{
-    x as usize
-}
+// The fields whose length is known, in their order: those before the payload of a frame, and those of a connect event, which has the remote end first.
+static HEAD: [(PartName, usize); 3] = [
+    (PartName::StartByte, 1),
+    (PartName::Length, 2),
+    (PartName::Identifier, 2),
+];
 
-// What is left of `a` after `b`, or nothing.
-pub(crate) fn less(a: usize, b: usize) -> usize
-    ensures { result ≡ a - b }
-{
-    if a < b { 0 } else { a - b }
-}
+static CONNECT: [(PartName, usize); 7] = [
+    (PartName::Channel, 1),
+    (PartName::ConnectType, 1),
+    (PartName::Protocol, 1),
+    (PartName::RemoteAddress, 4),
+    (PartName::RemotePort, 2),
+    (PartName::LocalAddress, 4),
+    (PartName::LocalPort, 2),
+];
 
-pub(crate) fn span_of(span: Span, t: &[u8]) -> usize
-    ensures { (result ≡ span_of span t.now) × (result ≤ length t.now) }
-{
-    match span {
-        Span::Exactly(n) => part(t, 0, n).len(),
-        Span::AllBut(n) => less(t.len(), n),
-        Span::UpTo(b, n) => {
-            let u = part(t, 0, less(t.len(), n));
-            match first_byte(u, 0, b) {
-                Some(i) => i,
-                None => u.len(),
-            }
-        }
-    }
-}
+const END: Slot = Slot {
+    pass: Span::AllBut(1),
+    name: PartName::EndByte,
+    len: Span::Exactly(1),
+};
 
 fn fixed(name: PartName, n: usize) -> Slot
-    ensures { result ≡ slotFor (Span.Exactly 0) name (Span.Exactly n) }
+    ensures { result ≡ fixedFor name n }
 {
     Slot {
         pass: Span::Exactly(0),
         name,
         len: Span::Exactly(n),
-    }
-}
-
-fn end_slot() -> Slot
-    ensures { result ≡ end_slot }
-{
-    Slot {
-        pass: Span::AllBut(1),
-        name: PartName::EndByte,
-        len: Span::Exactly(1),
     }
 }
 
@@ -101,135 +102,107 @@ fn field_slot(i: u8, stop: u8, but: usize) -> Slot
     }
 }
 
-fn connect_slot(i: usize) -> Slot
-    ensures { result ≡ get_or (shape_slots Shape.Connect) i end_slot }
+fn fixed_slot(fields: &[(PartName, usize)], i: usize) -> Option<Slot>
+    ensures { result ≡ slice_get (map (λ f. fixedFor f.0 f.1) fields.now) i }
 {
-    match i {
-        0 => fixed(PartName::Channel, 1),
-        1 => fixed(PartName::ConnectType, 1),
-        2 => fixed(PartName::Protocol, 1),
-        3 => fixed(PartName::RemoteAddress, 4),
-        4 => fixed(PartName::RemotePort, 2),
-        5 => fixed(PartName::LocalAddress, 4),
-        6 => fixed(PartName::LocalPort, 2),
-        _ => end_slot(),
-    }
+    let (name, n) = *fields.get(i)?;
+    Some(fixed(name, n))
 }
 
-fn data_slot(i: usize) -> Slot
-    ensures { result ≡ get_or (shape_slots Shape.Data) i end_slot }
-{
-    match i {
-        0 => fixed(PartName::Channel, 1),
-        1 => rest_slot(PartName::Data, 1),
-        _ => end_slot(),
-    }
-}
-
-fn event_slot(fields: u8, but: usize, i: usize) -> Slot
-    ensures { result ≡ get_or (shape_slots (Shape.Event fields but)) i end_slot }
+fn event_slot(fields: u8, but: usize, i: usize) -> Option<Slot>
+    ensures { result ≡ slice_get (shape_slots (Shape.Event fields but)) i }
 {
     if i == 0 {
-        return name_slot(but);
-    }
-    if i <= wide(fields) {
-        field_slot(i as u8, b',', but)
+        Some(name_slot(but))
+    } else if i <= usize::from(fields) {
+        Some(field_slot(i as u8, b',', but))
     } else {
-        end_slot()
+        None
     }
 }
 
 // What follows the fields of a binary event.
-fn marked_slot(but: usize, i: usize) -> Slot
-    ensures { result ≡ get_or (marked_tail but) i end_slot }
+fn marked_slot(but: usize, i: usize) -> Option<Slot>
+    ensures { result ≡ slice_get (marked_tail but) i }
 {
     match i {
-        0 => fixed(PartName::Marker, 1),
-        1 => fixed(PartName::DataLength, 2),
-        2 => rest_slot(PartName::Data, but),
-        _ => end_slot(),
+        0 => Some(fixed(PartName::Marker, 1)),
+        1 => Some(fixed(PartName::DataLength, 2)),
+        2 => Some(rest_slot(PartName::Data, but)),
+        _ => None,
     }
 }
 
-fn binary_slot(fields: u8, but: usize, i: usize) -> Slot
-    ensures { result ≡ get_or (shape_slots (Shape.Binary fields but)) i end_slot }
+fn binary_slot(fields: u8, but: usize, i: usize) -> Option<Slot>
+    ensures { result ≡ slice_get (shape_slots (Shape.Binary fields but)) i }
 {
-    let n = wide(fields);
+    let n = usize::from(fields);
     if i == 0 {
-        return name_slot(but);
+        Some(name_slot(but))
+    } else if i < n {
+        Some(field_slot(i as u8, b',', but))
+    } else if i == n {
+        Some(field_slot(i as u8, 1, but))
+    } else {
+        marked_slot(but, i - n - 1)
     }
-    if i < n {
-        return field_slot(i as u8, b',', but);
-    }
-    if i == n {
-        return field_slot(i as u8, 1, but);
-    }
-    marked_slot(but, i - n - 1)
 }
 
-fn one_slot(slot: Slot, i: usize) -> Slot
-    ensures { result ≡ get_or (slot ∷ []) i end_slot }
-{
-    if i == 0 { slot } else { end_slot() }
-}
-
-// The slot with a number, counted from 0; the one of the last byte where there are no more.
-fn shape_slot(shape: Shape, i: usize) -> Slot
-    ensures { result ≡ get_or (shape_slots shape) i end_slot }
+// The slot with a number, counted from 0.
+fn shape_slot(shape: Shape, i: usize) -> Option<Slot>
+    ensures { result ≡ slice_get (shape_slots shape) i }
 {
     match shape {
-        Shape::Connect => connect_slot(i),
-        Shape::Disconnect => one_slot(fixed(PartName::Channel, 1), i),
-        Shape::Data => data_slot(i),
-        Shape::Request => one_slot(rest_slot(PartName::Text, 1), i),
-        Shape::Response { skip, len } => one_slot(
-            Slot {
-                pass: Span::Exactly(skip),
-                name: PartName::Text,
-                len: Span::Exactly(len),
-            },
-            i,
-        ),
-        Shape::Bare => end_slot(),
+        Shape::Connect => fixed_slot(&CONNECT, i),
+        Shape::Disconnect => (i == 0).then_some(fixed(PartName::Channel, 1)),
+        Shape::Data => match i {
+            0 => Some(fixed(PartName::Channel, 1)),
+            1 => Some(rest_slot(PartName::Data, 1)),
+            _ => None,
+        },
+        Shape::Request => (i == 0).then_some(rest_slot(PartName::Text, 1)),
+        Shape::Response { skip, len } => (i == 0).then_some(Slot {
+            pass: Span::Exactly(skip),
+            name: PartName::Text,
+            len: Span::Exactly(len),
+        }),
+        Shape::Bare => None,
         Shape::Event { fields, but } => event_slot(fields, but, i),
         Shape::Binary { fields, but } => binary_slot(fields, but, i),
     }
 }
 
 fn shape_count(shape: Shape) -> usize
-    ensures { (result ≡ length (shape_slots shape)) × (result < 512) }
+    ensures count { result ≡ length (shape_slots shape) }
+    ensures few { result < 512 }
 {
     match shape {
-        Shape::Connect => 7,
-        Shape::Disconnect => 1,
+        Shape::Connect => CONNECT.len(),
         Shape::Data => 2,
+        Shape::Disconnect => 1,
         Shape::Request => 1,
         Shape::Response { skip: _, len: _ } => 1,
         Shape::Bare => 0,
-        Shape::Event { fields, but: _ } => wide(fields) + 1,
-        Shape::Binary { fields, but: _ } => wide(fields) + 4,
+        Shape::Event { fields, but: _ } => usize::from(fields) + 1,
+        Shape::Binary { fields, but: _ } => usize::from(fields) + 4,
     }
 }
 
-pub(crate) fn slot_count(framed: bool, shape: Shape) -> usize
-    ensures { (result ≡ length (slots_of framed shape)) × (result < 1024) }
+// The slot with a number, counted from 0. A frame has the last byte after those of its payload.
+pub(crate) fn slot_at(framed: bool, shape: Shape, i: usize) -> Option<Slot>
+    ensures slot { result ≡ slice_get (slots_of framed shape) i }
+    ensures few { OnSome result (i < 1024) }
 {
     let n = shape_count(shape);
-    if framed { n + 4 } else { n }
-}
-
-// The slot with a number, counted from 0; the one of the last byte where there are no more.
-pub(crate) fn slot_at(framed: bool, shape: Shape, i: usize) -> Slot
-    ensures { result ≡ get_or (slots_of framed shape) i end_slot }
-{
-    if framed {
-        match i {
-            0 => fixed(PartName::StartByte, 1),
-            1 => fixed(PartName::Length, 2),
-            2 => fixed(PartName::Identifier, 2),
-            _ => shape_slot(shape, i - 3),
-        }
+    if !framed {
+        return shape_slot(shape, i);
+    }
+    let Some(j) = i.checked_sub(HEAD.len()) else {
+        return fixed_slot(&HEAD, i);
+    };
+    if j == n {
+        Some(END)
     } else {
-        shape_slot(shape, i)
+        shape_slot(shape, j)
     }
 }

@@ -12,7 +12,7 @@ returns-in-Ok-None c = let a = c.args in
 pub returns-in-Ok-Some : goal.returns-in-Ok-Some
 returns-in-Ok-Some c = let a = c.args in
     let r = c.in-Ok-Some.is ∙ ap Ok c.in-Ok-Some.field-0-is in
-    binary-accepted a.s.now a.from _ _ (sym c.try_parse_binary.ensures ∙ ap shown_binary r) c.shape_of.ensures
+    rw c.over.ensures (binary-accepted a.s.now a.from _ _ (sym c.try_parse_binary.ensures ∙ ap shown_binary r) c.shape_of-shape.ensures)
 
 pub returns-in-Err : goal.returns-in-Err
-returns-in-Err c = let a = c.args in binary-refused a.s.now a.from _ _ _ (sym c.try_parse_binary.ensures ∙ ap shown_binary c.in-Err.is) c.reason_of-check.ensures
+returns-in-Err c = let a = c.args in rw c.refuses.ensures (binary-refused a.s.now a.from _ _ _ (sym c.try_parse_binary.ensures ∙ ap shown_binary c.in-Err.is) c.reason_of.ensures)

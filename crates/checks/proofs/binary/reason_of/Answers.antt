@@ -15,15 +15,15 @@ unfolding binary_table
 returns-then-starts_at c = c.body_reason.ensures ∙ row_named UESODB (UESODBF ∷ []) c.args.s.now c.args.from _ (sym c.starts_at.ensures ∙ c.if-starts_at.true)
 
 pub overflow_add-from-then-starts_at-2 : goal.overflow_add-from-then-starts_at-2
-overflow_add-from-then-starts_at-2 c = omega (arith, prefix-inside UESODBF c.args.s.now c.args.from (sym c.starts_at-2.ensures ∙ c.if-starts_at-2.true), c.well_formed)
+overflow_add-from-then-starts_at-2 c = omega (arith, prefix-inside UESODBF c.args.s.now c.args.from (sym c.starts_at-else-starts_at.ensures ∙ c.if-starts_at-2.true), c.well_formed)
 
 pub returns-then-starts_at-2 : goal.returns-then-starts_at-2
 unfolding binary_table
 returns-then-starts_at-2 c = c.body_reason-then-starts_at-2.ensures
-    ∙ row_named UESODBF [] c.args.s.now c.args.from _ (sym c.starts_at-2.ensures ∙ c.if-starts_at-2.true)
+    ∙ row_named UESODBF [] c.args.s.now c.args.from _ (sym c.starts_at-else-starts_at.ensures ∙ c.if-starts_at-2.true)
     ∙ row-passed UESODB (UESODBF ∷ []) c.args.s.now c.args.from _ (sym c.starts_at.ensures ∙ c.if-starts_at.false)
 
-pub returns : goal.returns
+pub returns-else-starts_at-2 : goal.returns-else-starts_at-2
 unfolding binary_table binary_reason
-returns c = row-passed UESODBF [] c.args.s.now c.args.from _ (sym c.starts_at-2.ensures ∙ c.if-starts_at-2.false)
+returns-else-starts_at-2 c = row-passed UESODBF [] c.args.s.now c.args.from _ (sym c.starts_at-else-starts_at.ensures ∙ c.if-starts_at-2.false)
     ∙ row-passed UESODB (UESODBF ∷ []) c.args.s.now c.args.from _ (sym c.starts_at.ensures ∙ c.if-starts_at.false)

@@ -1,6 +1,10 @@
+use Prim.Native.Nat.{◌+◌}
+use lib.ListN.{length, drop}
+use Rattle.text.specs.FieldSteps.{left}
 use native.Mathlib.Omega.{arith}
 use Rattle.text.proofs.BytesLaws.{part-rest}
 use Rattle.checks.proofs.StartLaws.{rest-length}
+use Rattle.checks.proofs.ReasonLaws.{of-type}
 use Rattle.checks.proofs.field.text_reason.Goals as goal
 
 pub overflow_add-result : goal.overflow_add-result
@@ -16,10 +20,5 @@ pub returns-in-EventUnknown : goal.returns-in-EventUnknown
 returns-in-EventUnknown c = rw c.in-EventUnknown.is
 
 pub returns-in-TypeDecodeUnsupported : goal.returns-in-TypeDecodeUnsupported
-returns-in-TypeDecodeUnsupported c = rw (c.in-TypeDecodeUnsupported.is, c.type_reason.ensures)
-
-pub returns-in-Utf8DecodeFailed : goal.returns-in-Utf8DecodeFailed
-returns-in-Utf8DecodeFailed c = rw (c.in-Utf8DecodeFailed.is, c.type_reason-in-Utf8DecodeFailed.ensures)
-
-pub returns-in-FramingDecodeFailed : goal.returns-in-FramingDecodeFailed
-returns-in-FramingDecodeFailed c = rw (c.in-FramingDecodeFailed.is, c.type_reason-in-FramingDecodeFailed.ensures)
+returns-in-TypeDecodeUnsupported c = let a = c.args in
+    rw c.nth_start-in-TypeDecodeUnsupported.ensures (of-type a.start (a.start + length (drop a.start a.s.now)) (left a.s.now (record { at = a.at })) a.e c.in-TypeDecodeUnsupported.is)

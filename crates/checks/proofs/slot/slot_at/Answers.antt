@@ -1,25 +1,28 @@
-use Prim.Native.Nat.{zero-le}
-use Rattle.checks.specs.Slot.{slots_of}
-use Rattle.at.proofs.TableLaws.{none_of}
-use Rattle.checks.proofs.SlotLaws.{framed-slot}
+use mathlib.Core.Path.{sym, ◌∙◌}
+use mathlib.Core.Bool.{true}
+use native.Mathlib.Omega.{arith}
+use Rattle.checks.specs.Slot.{shape_slots, slots_of}
+use Rattle.checks.proofs.SlotLaws.{few, framed-count, framed-slot, framed-end, framed-head}
 use Rattle.checks.proofs.slot.slot_at.Goals as goal
 
--- `slot::slot_at` meets its contract. Assumes nothing.
-pub returns-in-0 : goal.returns-in-0
+pub returns-then-not-framed-clause-slot : goal.returns-then-not-framed-clause-slot
 unfolding slots_of
-returns-in-0 c = rw (c.fixed.ensures, c.if-framed.true, c.in-0.is)
+returns-then-not-framed-clause-slot c = rw (c.if-not-framed.true, c.shape_slot.ensures)
 
-pub returns-in-1 : goal.returns-in-1
-unfolding slots_of
-returns-in-1 c = rw (c.fixed-in-1.ensures, c.if-framed.true, c.in-1.is)
+pub returns-then-not-framed-clause-few : goal.returns-then-not-framed-clause-few
+returns-then-not-framed-clause-few c = let n = c.shape_count-n.ensures in
+    few 1024 (shape_slots c.args.shape) _ _ c.shape_slot.ensures (omega (arith, n.count, n.few))
 
-pub returns-in-2 : goal.returns-in-2
-unfolding slots_of
-returns-in-2 c = rw (c.fixed-in-2.ensures, c.if-framed.true, c.in-2.is)
+pub returns-in_default-clause-slot : goal.returns-in_default-clause-slot
+returns-in_default-clause-slot c = rw (c.if-not-framed.false, c.fixed_slot.ensures) (framed-head c.args.shape c.args.i (omega (arith, c.in_default.ensures)))
 
-pub returns-in_default : goal.returns-in_default
-returns-in_default c = rw (c.shape_slot.ensures, c.if-framed.true) (framed-slot _ _ (none_of _ 0 3 zero-le c.in_default.in_default-own.rest))
+pub returns-then-j-n-clause-slot : goal.returns-then-j-n-clause-slot
+returns-then-j-n-clause-slot c = rw c.if-not-framed.false (framed-end c.args.shape c.args.i c.in-Some.j (omega (arith, c.in-Some.ensures)) (omega (arith, c.if-j-n.true, c.shape_count-n.ensures.count)))
 
-pub returns-else-framed : goal.returns-else-framed
-unfolding slots_of
-returns-else-framed c = rw (c.shape_slot-else-framed.ensures, c.if-framed.false)
+pub returns-else-j-n-clause-slot : goal.returns-else-j-n-clause-slot
+returns-else-j-n-clause-slot c = rw (c.if-not-framed.false, c.shape_slot-else-j-n.ensures)
+    (framed-slot c.args.shape c.args.i c.in-Some.j (omega (arith, c.in-Some.ensures)) (λ e. c.if-j-n.false (e ∙ sym c.shape_count-n.ensures.count)))
+
+pub returns-else-j-n-clause-few : goal.returns-else-j-n-clause-few
+returns-else-j-n-clause-few c = let n = c.shape_count-n.ensures in
+    few 1024 (slots_of true c.args.shape) _ _ (rw c.if-not-framed.false at (returns-else-j-n-clause-slot c)) (omega (arith, framed-count c.args.shape, n.count, n.few))
