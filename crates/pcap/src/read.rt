@@ -3,30 +3,30 @@ ghost use Rattle.std.specs.Prelude.{◌≡◌, ◌≤◌, length, take, drop};
 ghost use Rattle.pcap.specs.Layout.{header, matches, exactly};
 ghost use Rattle.pcap.specs.Read.{read_header, read_record, header_shown, record_shown};
 
-use crate::number::number_at;
+use crate::number::Ordered;
 use crate::{ByteOrder, CaptureError, Header, Record};
 use text::bytes::part;
 
-#[tactic(auto, unfolding(crate::specs::Layout::matches))]
-fn is_header(order: ByteOrder, s: &[u8]) -> bool
-    requires { 24 ≤ length s.now }
-    ensures { result ≡ matches order s.now 0 header }
-{
-    number_at(order, s, 0, 4) == 0xA1B2C3D4
-        && number_at(order, s, 4, 2) == 2
-        && number_at(order, s, 6, 2) == 4
-        && number_at(order, s, 20, 4) == 147
-}
+impl<'a> Ordered<'a> {
+    #[tactic(auto, unfolding(crate::specs::Layout::matches))]
+    fn is_header(self) -> bool
+        requires { 24 ≤ length self.bytes.now }
+        ensures { result ≡ matches self.entry.order self.entry.bytes.now 0 header }
+    {
+        self.number_at(0, 4) == 0xA1B2C3D4
+            && self.number_at(4, 2) == 2
+            && self.number_at(6, 2) == 4
+            && self.number_at(20, 4) == 147
+    }
 
-// Whether the values that a header need not have are those that are written: zone, accuracy and snap length.
-#[tactic(auto, unfolding(crate::specs::Layout::matches))]
-fn is_ours(order: ByteOrder, s: &[u8]) -> bool
-    requires { 24 ≤ length s.now }
-    ensures { result ≡ matches order s.now 8 (exactly (take 3 (drop 3 header))) }
-{
-    number_at(order, s, 8, 4) == 0
-        && number_at(order, s, 12, 4) == 0
-        && number_at(order, s, 16, 4) == 4099
+    // Whether the values that a header need not have are those that are written: zone, accuracy and snap length.
+    #[tactic(auto, unfolding(crate::specs::Layout::matches))]
+    fn is_ours(self) -> bool
+        requires { 24 ≤ length self.bytes.now }
+        ensures { result ≡ matches self.entry.order self.entry.bytes.now 8 (exactly (take 3 (drop 3 header))) }
+    {
+        self.number_at(8, 4) == 0 && self.number_at(12, 4) == 0 && self.number_at(16, 4) == 4099
+    }
 }
 
 // The header of the file that begins with these bytes.
@@ -36,16 +36,24 @@ pub fn read_header(s: &[u8]) -> Result<Header, CaptureError>
     if s.len() < 24 {
         return Err(CaptureError::CaptureHeaderInvalid);
     }
-    let order = if is_header(ByteOrder::Little, s) {
-        ByteOrder::Little
-    } else if is_header(ByteOrder::Big, s) {
-        ByteOrder::Big
+    let little = Ordered {
+        order: ByteOrder::Little,
+        bytes: s,
+    };
+    let big = Ordered {
+        order: ByteOrder::Big,
+        bytes: s,
+    };
+    let file = if little.is_header() {
+        little
+    } else if big.is_header() {
+        big
     } else {
         return Err(CaptureError::CaptureHeaderInvalid);
     };
     Ok(Header {
-        order,
-        is_ours: is_ours(order, s),
+        order: file.order,
+        is_ours: file.is_ours(),
     })
 }
 
@@ -53,26 +61,26 @@ pub fn read_header(s: &[u8]) -> Result<Header, CaptureError>
 pub fn read_record(order: ByteOrder, s: &[u8], at: usize) -> Result<Option<Record>, CaptureError>
     ensures { record_shown result ≡ read_record order s.now at }
 {
-    let t = part(s, at, s.len());
-    if t.is_empty() {
+    let left = Ordered {
+        order,
+        bytes: part(s, at, s.len()),
+    };
+    let n = left.bytes.len();
+    if n == 0 {
         return Ok(None);
     }
-    if t.len() < 16 {
+    if n < 16 {
         return Err(CaptureError::CaptureRecordInvalid);
     }
-    let microseconds = number_at(order, t, 4, 4);
-    let in_file = number_at(order, t, 8, 4);
+    let microseconds = left.number_at(4, 4);
+    let in_file = left.number_at(8, 4);
     let len = in_file as usize;
-    if 999999 < microseconds
-        || in_file != number_at(order, t, 12, 4)
-        || 4099 < in_file
-        || t.len() < 16 + len
-    {
+    if 999999 < microseconds || in_file != left.number_at(12, 4) || 4099 < in_file || n < 16 + len {
         return Err(CaptureError::CaptureRecordInvalid);
     }
     let start = at + 16;
     Ok(Some(Record {
-        seconds: number_at(order, t, 0, 4),
+        seconds: left.number_at(0, 4),
         microseconds,
         start,
         len,

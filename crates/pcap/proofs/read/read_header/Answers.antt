@@ -24,11 +24,11 @@ returns c =
     elim c.if-is_header.branch [
       | then-is_header w ↦
           let m = sym c.is_header.ensures ∙ w.if-is_header.true in
-          let u = rw w.order-is at c.is_ours.ensures in
-          rw (w.order-is, u, le-leb 24 (length s) (omega arith), ours_by_three Little s m, m)
+          let u = rw w.file-is at c.is_ours.ensures in
+          rw (w.file-is, u, le-leb 24 (length s) (omega arith), ours_by_three Little s m, m)
       | else-is_header+then-is_header-2 w ↦
           let n = sym c.is_header.ensures ∙ w.if-is_header.false in
           let m = sym w.is_header-else-is_header.ensures ∙ w.if-is_header-2.true in
-          let u = rw w.order-is at c.is_ours.ensures in
-          rw (w.order-is, u, le-leb 24 (length s) (omega arith), n, ours_by_three Big s m, m)
+          let u = rw w.file-is at c.is_ours.ensures in
+          rw (w.file-is, u, le-leb 24 (length s) (omega arith), n, ours_by_three Big s m, m)
     ]
