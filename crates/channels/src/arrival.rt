@@ -1,12 +1,12 @@
 // What a frame says about a channel.
-ghost use Rattle.std.specs.Prelude.{◌≡◌, ◌<◌, get_or};
+ghost use Rattle.std.specs.Prelude.{◌≡◌, get_or};
 ghost use Rattle.edm.specs.Packet.{shown};
 ghost use Rattle.edm.specs.Frame.{read_frame};
 ghost use Rattle.channels.specs.Machine.{brings, four_bytes};
 ghost use Rattle.channels.specs.Steps.{arrival_of, channel_of};
 
 use crate::cell::Row;
-use edm::{Channel, EdmPacket, FrameAnswer};
+use edm::{Channel, EdmPacket, EdmPacketError};
 use text::bytes::part;
 
 #[derive(Clone, Copy)]
@@ -22,31 +22,21 @@ pub(crate) enum Arrival {
 fn byte(s: &[u8], i: usize) -> u8
     ensures { result ≡ get_or s.now i 0 }
 {
-    if i < s.len() { s[i] } else { 0 }
-}
-
-fn wide(x: u8) -> u64
-    ensures { (result ≡ x) × (result < 256) }
-{
-    x as u64
+    s.get(i).copied().unwrap_or(0)
 }
 
 // Four bytes as a number, high first.
 fn number(s: &[u8]) -> u64
     ensures { result ≡ four_bytes s.now }
 {
-    let a = wide(byte(s, 0));
-    let b = wide(byte(s, 1));
-    let c = wide(byte(s, 2));
-    let d = wide(byte(s, 3));
-    ((a * 256 + b) * 256 + c) * 256 + d
+    u64::from(u32::from_be_bytes([byte(s, 0), byte(s, 1), byte(s, 2), byte(s, 3)]))
 }
 
 // What a packet says; its places are in `s`.
-fn brought(s: &[u8], a: FrameAnswer) -> Arrival
+fn brought(s: &[u8], a: Result<EdmPacket, EdmPacketError>) -> Arrival
     ensures { arrival_of result ≡ brings s.now (shown a) }
 {
-    let FrameAnswer::Packet(p) = a else {
+    let Ok(p) = a else {
         return Arrival::Refused;
     };
     match p {

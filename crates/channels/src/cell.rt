@@ -35,7 +35,7 @@ pub(crate) struct Cell {
 fn up(n: u32) -> u32
     ensures { result ≡ countUp n }
 {
-    if n < u32::MAX { n + 1 } else { n }
+    n.saturating_add(1)
 }
 
 const CLOSED: Row = Row {

@@ -1,5 +1,5 @@
 // The table by its fields: plain arrays and numbers.
-ghost use Rattle.std.specs.Prelude.{◌≡◌, ◌<◌};
+ghost use Rattle.std.specs.Prelude.{◌≡◌};
 ghost use Rattle.channels.specs.Machine.{step};
 ghost use Rattle.channels.specs.View.{row_in, counts_of, machine_of};
 ghost use Rattle.channels.specs.Steps.{Whole};
@@ -7,12 +7,6 @@ ghost use Rattle.channels.specs.Steps.{Whole};
 use crate::arrival::{channel_of, read};
 use crate::cell::{Cell, Counts, Row, next};
 use edm::Channel;
-
-fn index(c: u8) -> usize
-    ensures { (result ≡ c) × (result < 256) }
-{
-    c as usize
-}
 
 pub(crate) fn row_at<'a>(
     kind: &'a [u8; 256],
@@ -23,7 +17,7 @@ pub(crate) fn row_at<'a>(
 ) -> Row
     ensures { result ≡ row_in kind.now high.now low.now port.now c.0 }
 {
-    let i = index(c.0);
+    let i = usize::from(c.0);
     Row {
         kind: kind[i],
         high: high[i],
@@ -64,7 +58,7 @@ pub(crate) fn fed<'a, 's>(
         ≡ step (machine_of kind.old high.old low.old port.old (counts_of reopened.old reclosed.old stray.old refused.old)) frame.now }
 {
     let a = read(frame);
-    let i = index(channel_of(a));
+    let i = usize::from(channel_of(a));
     let old = Cell {
         row: Row {
             kind: kind[i],

@@ -31,14 +31,11 @@ pub struct Channels {
 pub fn fresh() -> Channels
     ensures { view result ≡ freshMachine }
 {
-    let bytes = [0u8; 256];
-    let words = [0u64; 256];
-    let ports = [0u16; 256];
     Channels {
-        kind: bytes,
-        high: words,
-        low: words,
-        port: ports,
+        kind: [0; 256],
+        high: [0; 256],
+        low: [0; 256],
+        port: [0; 256],
         reopened: 0,
         reclosed: 0,
         stray: 0,

@@ -10,7 +10,7 @@ unfolding step
 returns c =
     let t = c.args in
     let read = c.read-a in
-    let i = c.index-i.ensures in
+    let i = c.from-i.ensures in
     let channel = c.channel_of.ensures in
-    λ whole. rw (i.0, channel, ← read.ensures)
-    (fed_step t.kind.now t.high.now t.low.now t.port.now (counts_of t.reopened.now t.reclosed.now t.stray.now t.refused.now) (arrival_of read.result) c.next-new.result whole (rw (i.0, channel) at i.1) (rw (i.0, channel) at c.next-new.ensures))
+    λ whole. rw (i, channel, ← read.ensures)
+    (fed_step t.kind.now t.high.now t.low.now t.port.now (counts_of t.reopened.now t.reclosed.now t.stray.now t.refused.now) (arrival_of read.result) c.next-new.result whole (rw channel at c.channel_of.type_inv) (rw (i, channel) at c.next-new.ensures))
