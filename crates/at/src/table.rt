@@ -39,32 +39,23 @@ pub fn kinds_at(table: &[u8], row: usize) -> &[u8]
     }
 }
 
-// Whether a row has a name. Most rows differ in length, and most others in the last letters, so they are looked at first.
-fn has_name(table: &[u8], start: usize, len: usize, name: &[u8]) -> bool
-    requires { start + len ≤ length table.now }
-    ensures { result ≡ sameBytes name.now (part_of table.now start len) }
+// Whether a name stands at a place. A call of its own, so that the loop over the rows holds only their lengths, which the compiler knows.
+#[inline(never)]
+fn stands_at(table: &[u8], at: usize, name: &[u8]) -> bool
+    requires { at + length name.now ≤ length table.now }
+    ensures { result ≡ sameBytes name.now (part_of table.now at (length name.now)) }
 {
-    if name.len() != len {
-        return false;
-    }
-    let mut i = len;
-    while 0 < i {
-        i -= 1;
-        if table[start + i] != name[i] {
-            return false;
-        }
-    }
-    true
+    name == &table[at..at + name.len()]
 }
 
-// The number of the row that has a name.
+// The number of the row that has a name. Most rows differ in length, so it is looked at first.
 pub(crate) fn row_of(table: &[u8], name: &[u8]) -> Option<usize>
     requires { SomeTable table.now }
     ensures { (rows : List Row) → Tabled rows table.now → Finds rows name.now result }
 {
     for row in 0..table.len() / 20 {
         let at = row * 20;
-        if has_name(table, at + 2, usize::from(table[at]), name) {
+        if name.len() == usize::from(table[at]) && stands_at(table, at + 2, name) {
             return Some(row);
         }
     }

@@ -4,6 +4,7 @@ use native.Mathlib.Omega.{arith}
 use Prim.Native.Nat.{◌+◌, ◌-◌}
 use lib.ListN.{length, drop}
 use borrow.Author.Tests.{lt-ltb, le-ltb}
+use Rattle.std.proofs.lemmas.Result.{err_from_is_err_and}
 use Rattle.text.specs.Bytes.{part}
 use Rattle.text.specs.Field.{field}
 use Rattle.at.specs.Event.{bits, text, num, place, read_field, take_kind, prepend, take_kinds}
@@ -20,22 +21,22 @@ after-socket : (c : Else-n-end)
     → let a = c.args in
     let end = c.field_end-end.result in
     read_fields UESODBF a.start (drop a.start a.s.now)
-    ≡ prepend (num c.in-Ok.n) (take_kinds 2 (text ∷ bits 16 ∷ []) (fields_up_to 1 (end + 1) (drop (end + 1) a.s.now)))
-unfolding read_field take_kind take_kinds read_fields
+    ≡ prepend (num c.in_ok-socket.socket) (take_kinds 2 (text ∷ bits 16 ∷ []) (fields_up_to 1 (end + 1) (drop (end + 1) a.s.now)))
+unfolding take_kind take_kinds read_fields
 after-socket c =
     let a = c.args in
-    rw (cut_at 1 a.s.now a.start c.field_end-end.ensures, ← c.part.ensures, ← c.read.ensures, c.in-Ok.is, lt-ltb _ _ c.if-n-end.false)
+    rw (cut_at 1 a.s.now a.start c.field_end-end.ensures, ← c.part.ensures, ← c.number_in.ensures a.start, c.in_ok-socket.was, lt-ltb _ _ c.if-n-end.false)
 
 -- a comma follows the address too: the port is all that follows it
 after-address : (c : Else-n-ip_end)
     → let a = c.args in
     let end = c.field_end-end.result in
     read_fields UESODBF a.start (drop a.start a.s.now)
-    ≡ prepend (num c.in-Ok.n) (take_kinds 2 (text ∷ bits 16 ∷ []) (fields_up_to 1 (end + 1) (drop (end + 1) a.s.now)))
+    ≡ prepend (num c.in_ok-socket.socket) (take_kinds 2 (text ∷ bits 16 ∷ []) (fields_up_to 1 (end + 1) (drop (end + 1) a.s.now)))
     → let ip = c.field_end-end.result + 1 in
     let end = c.field_end-ip_end.result in
     read_fields UESODBF a.start (drop a.start a.s.now)
-    ≡ prepend (num c.in-Ok.n)
+    ≡ prepend (num c.in_ok-socket.socket)
     (prepend (place ip (end - ip)) (take_kinds 3 (bits 16 ∷ []) (field (end + 1) (part a.s.now (end + 1) (length a.s.now)) ∷ [])))
 unfolding read_field take_kind take_kinds
 after-address c h =
@@ -45,27 +46,30 @@ after-address c h =
     h
     ∙ rw (cut_at 0 s ip c.field_end-ip_end.ensures, part_length s ip (end - ip) (omega arith), lt-ltb _ _ c.if-n-ip_end.false, up_to_none, part-rest s (end + 1))
 
-pub returns-in-Err : goal.returns-in-Err
-unfolding read_field take_kind take_kinds read_fields
-returns-in-Err c =
+pub returns-in_err-socket : goal.returns-in_err-socket
+unfolding take_kind take_kinds read_fields
+returns-in_err-socket c =
     let a = c.args in
-    rw (c.invalid.ensures, cut_at 1 a.s.now a.start c.field_end-end.ensures, ← c.part.ensures, ← c.read.ensures, c.in-Err.is)
+    let p = err_from_is_err_and c.from_residual.result c.from_residual.ensures.1 in
+    rw (p.1, p.2, cut_at 1 a.s.now a.start c.field_end-end.ensures, ← c.part.ensures, ← c.number_in.ensures a.start, c.in_err-socket.was)
 
 pub returns-then-n-end : goal.returns-then-n-end
-unfolding read_field take_kind take_kinds read_fields
+unfolding take_kind take_kinds read_fields
 returns-then-n-end c =
     let a = c.args in
-    rw (cut_at 1 a.s.now a.start c.field_end-end.ensures, ← c.part.ensures, ← c.read.ensures, c.in-Ok.is, le-ltb _ _ c.if-n-end.true)
+    rw (cut_at 1 a.s.now a.start c.field_end-end.ensures, ← c.part.ensures, ← c.number_in.ensures a.start, c.in_ok-socket.was, le-ltb _ _ c.if-n-end.true)
 
 pub returns-then-n-ip_end : goal.returns-then-n-ip_end
 unfolding read_field take_kind take_kinds
 returns-then-n-ip_end c =
     rw (after-socket (goal.at.returns-then-n-ip_end c).Else-n-end, cut_at 0 c.args.s.now (c.field_end-end.result + 1) c.field_end-ip_end.ensures, le-ltb _ _ c.if-n-ip_end.true)
 
-pub returns-in-Err-read : goal.returns-in-Err-read
-unfolding read_field take_kind take_kinds
-returns-in-Err-read c = rw (c.invalid-in-Err-read.ensures, after-address (goal.at.returns-in-Err-read c).Else-n-ip_end (after-socket (goal.at.returns-in-Err-read c).Else-n-end), ← c.part-2.ensures, ← c.read-2.ensures, c.in-Err-read.is)
+pub returns-in_err-port : goal.returns-in_err-port
+unfolding take_kind take_kinds
+returns-in_err-port c =
+    let p = err_from_is_err_and c.from_residual-in_err-port.result c.from_residual-in_err-port.ensures.1 in
+    rw (p.1, p.2, after-address (goal.at.returns-in_err-port c).Else-n-ip_end (after-socket (goal.at.returns-in_err-port c).Else-n-end), ← c.part-2.ensures, ← c.number_in-2.ensures (c.field_end-ip_end.result + 1), c.in_err-port.was)
 
 pub returns : goal.returns
-unfolding read_field take_kind take_kinds
-returns c = rw (after-address (goal.at.returns c).Else-n-ip_end (after-socket (goal.at.returns c).Else-n-end), ← c.part-2.ensures, ← c.read-2.ensures, c.in-Ok-read.is)
+unfolding take_kind take_kinds
+returns c = rw (after-address (goal.at.returns c).Else-n-ip_end (after-socket (goal.at.returns c).Else-n-end), ← c.part-2.ensures, ← c.number_in-2.ensures (c.field_end-ip_end.result + 1), c.in_ok-port.was)

@@ -1,29 +1,37 @@
-use mathlib.Core.Path.{sym}
+use mathlib.Core.Path.{◌≡◌, sym, ap, ◌∙◌}
 use native.Mathlib.Omega.{arith}
-use Prim.Native.Nat.{◌+◌}
+use lib.ListN.{length, drop, length-drop}
 use borrow.Author.Tests.{le-leb, lt-leb}
-use Rattle.at.proofs.BinaryLaws.{data-short, data_read}
+use Rattle.text.proofs.BytesLaws.{part-rest}
+use Rattle.at.specs.Binary.{announced, read_data}
 use Rattle.at.proofs.binary.data_at.Goals as goal
+use Rattle.at.proofs.binary.data_at.Goals.{After-from-len, After-part-rest}
 
 -- `binary::data_at` meets its contract: two length bytes, high first, and that many bytes after them. Assumes nothing.
-pub returns-then-s-at : goal.returns-then-s-at
-returns-then-s-at c = sym (data-short c.args.s.now c.args.at (omega arith))
+-- what stands from the place on, and the length that it announces
+rest : (c : After-part-rest) → c.part-rest.result.now ≡ drop c.args.at c.args.s.now
+rest c = c.part-rest.ensures ∙ part-rest _ _
 
-pub returns-then-left-lt2 : goal.returns-then-left-lt2
-returns-then-left-lt2 c = sym (data-short c.args.s.now c.args.at (omega arith))
+len : (c : After-from-len) → announced c.part-rest.result.now ≡ c.from-len.result
+len c = sym (c.from-len.ensures ∙ c.from_be_bytes.ensures)
 
-pub overflow_mul-len : goal.overflow_mul-len
-overflow_mul-len c = omega (arith, c.shared_slice_known-2-1.given c.args.at)
+pub returns-then-rest-lt2 : goal.returns-then-rest-lt2
+unfolding read_data
+returns-then-rest-lt2 c = rw (← rest (goal.at.returns-then-rest-lt2 c).After-part-rest, lt-leb _ _ c.if-rest-lt2.true)
 
-pub overflow_add-len : goal.overflow_add-len
-overflow_add-len c = omega (arith, c.shared_slice_known-2-1.given c.args.at, c.shared_slice_known-3-1.given (c.args.at + 1))
+pub overflow_add-result : goal.overflow_add-result
+overflow_add-result c =
+    let e = ap length (rest (goal.at.overflow_add-result c).After-part-rest) in
+    omega (arith, e, length-drop c.args.at c.args.s.now, c.if-rest-lt2.false, c.well_formed)
 
-pub returns-then-len-left : goal.returns-then-len-left
-returns-then-len-left c =
-    let a = c.args in
-    rw (data_read a.s.now a.at (omega arith) c.from.ensures c.from-2.ensures, le-leb _ _ c.if-len-left.true)
+pub returns-then-len-rest : goal.returns-then-len-rest
+unfolding read_data
+returns-then-len-rest c =
+    let past = goal.at.returns-then-len-rest c in
+    rw (← rest past.After-part-rest, le-leb _ _ c.if-rest-lt2.false, len past.After-from-len, le-leb _ _ c.if-len-rest.true)
 
-pub returns-else-len-left : goal.returns-else-len-left
-returns-else-len-left c =
-    let a = c.args in
-    rw (data_read a.s.now a.at (omega arith) c.from.ensures c.from-2.ensures, lt-leb _ _ c.if-len-left.false)
+pub returns-else-len-rest : goal.returns-else-len-rest
+unfolding read_data
+returns-else-len-rest c =
+    let past = goal.at.returns-else-len-rest c in
+    rw (← rest past.After-part-rest, le-leb _ _ c.if-rest-lt2.false, len past.After-from-len, lt-leb _ _ c.if-len-rest.false)
