@@ -92,11 +92,6 @@ module _ (b : List ℕ) (id : ℕ) (x y z : List ℕ) where
       → Writes b (fitted (length b) (good (command id (x ++ y ++ z)))) (Err error.PacketEncodePayloadSizeInvalid) b
   refused_parts h = let l = size in refuses b 10 (over (length b) id (x ++ y ++ z) (λ k. let g = h (omega arith) in omega arith)) refl
 
--- an empty part
-pub no_part : (s : List ℕ) → part s 0 0 ≡ []
-unfolding part
-no_part s = refl
-
 -- a buffer of six bytes and more takes the command, and a shorter one is refused
 module _ (room : ℕ) (k : OrRefused Command) where
   pub takes : 6 ≤ room → to_send room k ≡ fitted room k

@@ -13,7 +13,7 @@ use Rattle.text.specs.Put.{wrote, after as put}
 use Rattle.text.proofs.PutAppend.{after_append, after_front}
 use Rattle.pcap.specs.Number.{low_first}
 use Rattle.pcap.specs.Layout.{spelled, header_bytes, record_head, record_bytes}
-use Rattle.pcap.specs.Write.{Written, bytes, refused, fitted, header_out, record_out, refusal, shown, Writes}
+use Rattle.pcap.specs.Write.{Written, bytes, refused, fitted, record_out, refusal, shown, Writes}
 use Rattle.pcap.specs.declared.ByteOrder.TheVariants.{Little}
 use Rattle.pcap.specs.declared.CaptureError.{CaptureError}
 use Rattle.pcap.specs.declared.CaptureError.TheVariants.{CaptureBufferTooSmall}
@@ -54,14 +54,6 @@ header_list = 0xD4 ∷ 0xC3 ∷ 0xB2 ∷ 0xA1 ∷ 2 ∷ 0 ∷ 4 ∷ 0 ∷ 0 ∷ 
 pub header_list_lem : header_bytes Little ≡ header_list
 unfolding spelled low_first
 header_list_lem = refl
-
-pub header-fits : (room : ℕ) → 24 ≤ room → header_out room ≡ bytes header_list
-unfolding header_out
-header-fits room h = rw (header_list_lem, le-leb 24 room h)
-
-pub header-over : (room : ℕ) → room < 24 → header_out room ≡ refused 21
-unfolding header_out
-header-over room h = rw (header_list_lem, lt-leb 24 room h)
 
 -- a record's head as the code has it
 abbrev pub head_list : ℕ → ℕ → ℕ → List ℕ

@@ -4,13 +4,11 @@ use mathlib.Core.Path.{◌≡◌, refl, sym, ap, ◌∙◌}
 use mathlib.Core.List.{List, [], ◌∷◌}
 use mathlib.Core.Bool.{true, false}
 use native.Mathlib.Omega.{arith}
-use lib.ListN.{length, get_or, take, drop, length-drop, drop_of_length-le}
+use lib.ListN.{length, get_or, take, drop, drop_of_length-le}
 use native.Mathlib.Numerals.{add-one}
-use lib.Seq.{drop-cons, drop-drop, take_all}
+use lib.Seq.{drop-cons}
 use Rattle.scan.specs.Cut.{passes, run, Piece, kept, skipped, ◌before◌, cut_after, cut, text, rows}
-use Rattle.text.specs.Bytes.{part}
-use Rattle.scan.specs.Step.{kept_length, skipped_length, piece, Starts}
-use Rattle.scan.specs.declared.run.Range.{Range}
+use Rattle.scan.specs.Step.{kept_length, skipped_length, Starts}
 use Rattle.std.specs.Prelude.{Some, None}
 use Rattle.scan.proofs.RunLaws.{by_cases, stands, run_length, is-kept, is_skipped}
 
@@ -99,11 +97,6 @@ module _ (s : List ℕ) (i : ℕ) where
       let d = drop-cons s i 0 h in
       rw (add-one i, d) (skips-one (get_or s i 0) (drop (suc i) s) (rw d at e))
 
-  -- the part that the code takes is the rest
-  pub rest : part s i (length s) ≡ drop i s
-  unfolding part
-  rest = take_all (length s) (drop i s) (simp length-drop (omega arith))
-
 -- there are no more ranges than bytes
 before-length : (b : ℕ) (ps : List Piece) → length (b before ps) ≤ suc (length ps)
 before-length b [] = omega arith
@@ -140,24 +133,3 @@ starts_skipped s k h e f =
     let g = skips-within s in
     let m = first-moves s h (is_skipped s e) in
     record { cuts = rw f (cut-skips s m); moves = omega arith; within = omega arith }
-
--- and of a dump from a place on
-pub record Next (dump : List ℕ) (at : ℕ) (r : Range) : Type 0 where
-  pub cuts : cut (drop at dump) ≡ piece r.kept (take r.len (drop at dump)) ∷ cut (drop (at + r.len) dump)
-  pub moves : 0 < r.len
-  pub within : at + r.len ≤ length dump
-
-pub next : (dump : List ℕ) (at : ℕ) (t : List ℕ) (r : Range) → at ≤ length dump → t ≡ part dump at (length dump) → Starts t r → Next dump at r
-next dump at t r h e w =
-    let d = e ∙ rest dump at in
-    let x = w.within in
-    let l = ap length d ∙ length-drop at dump in
-    record {
-      cuts = (rw d at w.cuts) ∙ ap (λ (q : List ℕ). piece r.kept (take r.len (drop at dump)) ∷ cut q) (drop-drop r.len at dump);
-      moves = w.moves;
-      within = omega arith;
-    }
-
--- nothing is left at the end
-pub cut-end : (dump : List ℕ) (at : ℕ) → length dump ≤ at → cut (drop at dump) ≡ []
-cut-end dump at h = ap cut (drop_of_length-le dump h) ∙ cut-nothing

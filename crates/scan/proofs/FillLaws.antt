@@ -1,7 +1,7 @@
 -- Laws of listing the ranges, row by row. Assumes nothing.
 use Prim.Native.Nat.{ℕ, ◌+◌, ◌-◌, ◌≤◌}
 use mathlib.Core.Path.{◌≡◌, refl, sym, ap, ◌∙◌}
-use mathlib.Core.List.{List, [], ◌∷◌, ◌++◌, append_assoc, append-nil}
+use mathlib.Core.List.{List, [], ◌∷◌, ◌++◌, append_assoc}
 use native.Mathlib.Omega.{arith}
 use lib.ListN.{length, take, drop, length-append, length-drop, take-append-drop}
 use lib.Seq.{drop-drop, length-take-le}
@@ -85,10 +85,3 @@ module _ (dump list₀ list : List ℕ) (i at : ℕ) where
         same = d ∙ sym (drop-drop 3 i list) ∙ ap (drop 3) f.same ∙ drop-drop 3 i list₀;
         sized = omega arith;
       }
-
-  pub filling_end : Filling dump list₀ list i at [] → list ≡ rows 0 (cut dump) ++ drop (length (rows 0 (cut dump))) list₀
-  filling_end f =
-      let m = f.left in
-      let j : i ≡ length (rows 0 (cut dump)) = omega arith in
-      let d : rows 0 (cut dump) ≡ take i list = f.done ∙ append-nil (take i list) in
-      sym (take-append-drop i list) ∙ rw (f.same, ← d) (ap (λ (k : ℕ). rows 0 (cut dump) ++ drop k list₀) j)

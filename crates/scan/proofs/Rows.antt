@@ -6,7 +6,7 @@ use mathlib.Core.Bool.{Bool, true, false, false≢true}
 use native.Mathlib.Omega.{arith}
 use native.Mathlib.Nat.{add-zero, zero-add}
 use lib.Dec.{eqb}
-use lib.ListN.{length, take, drop, length-append, get_or-eq_default}
+use lib.ListN.{length, take, drop, length-append}
 use lib.Seq.{drop-drop, length-take-le}
 use Rattle.text.specs.Bytes.{part}
 use Rattle.scan.specs.Cut.{passes, run, Piece, kept, skipped, cut, text, frames, mark, rows}
@@ -53,15 +53,6 @@ row_from at (p ∷ ps) more (suc i) h =
 -- row i of the list is range i, whatever stands after the rows
 pub row_at : (ps : List Piece) (more : List ℕ) (i : ℕ) → i < length ps → listed_at (rows 0 ps ++ more) i ≡ row_of ps i
 row_at ps more i h = row_from 0 ps more i h ∙ rw (zero-add (start_of ps i))
-
--- past the end of a list
-pub past_list : (list : List ℕ) (i : ℕ) → length list ≤ i → record { start = 0; len = 0; kept = false } ≡ listed_at list i
-past_list list i h =
-    rw (
-      get_or-eq_default list 0 {n = i * 3} (omega arith),
-      get_or-eq_default list 0 {n = i * 3 + 1} (omega arith),
-      get_or-eq_default list 0 {n = i * 3 + 2} (omega arith),
-    )
 
 -- the rule, of the range that a dump begins with
 abbrev Leads : Piece → List ℕ → Type 0
