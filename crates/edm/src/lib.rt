@@ -50,6 +50,7 @@ pub struct ConnectEventIPv4 {
     pub local_port: u16,
 }
 
+// Text and data are places in the frame, or in the source of a write, since document 01 has no reference in an enum.
 #[derive(Clone, Copy)]
 pub enum EdmPacket {
     ConnectEvent {

@@ -16,7 +16,8 @@ pub enum ScanError {
     DumpTooLong,
 }
 
-// How many ranges the dump has. Three numbers a range: start, length, kept (1) or skipped (0). Entries after the last range stay as they were.
+// How many ranges the dump has. The caller lends the list, since nothing here allocates: three numbers a range, start, length, kept (1) or
+// skipped (0). Entries after the last range stay as they were.
 pub fn scan(dump: &[u8], list: &mut [u32]) -> Result<usize, ScanError>
     ensures { Scans dump.now list.old result list.new }
 {

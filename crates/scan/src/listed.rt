@@ -2,6 +2,7 @@
 ghost use Rattle.std.specs.Prelude.{◌≡◌, get_or};
 ghost use Rattle.scan.specs.Listed.{listed_at, next_kept};
 
+// A range has a start and a length whether it is kept or not, so the flag stands beside them.
 #[derive(Clone, Copy)]
 pub struct Listed {
     pub start: usize,
