@@ -6,7 +6,6 @@ use Rattle.text.specs.Field.{Field as Part}
 use Rattle.at.specs.Event.{Kind, bits, text, ip_type, bt_type, protocol, reason, Row, kinds_of as row_kinds, Value, num, place, at, Event, event, Read, values, read_row}
 use Rattle.at.specs.Line.{Body, body, rows_named, by_type}
 use Rattle.at.specs.Table.{letters_of}
-use Rattle.at.specs.TableSteps.{Tabled}
 use Rattle.at.specs.Parts.{row_no}
 use Rattle.at.specs.Binary.{Data, data_at}
 use Rattle.at.specs.W26 as w26
@@ -105,10 +104,6 @@ kinds_in cs = map kind_of cs
 -- the letters of a table say its kinds
 abbrev pub Legible : List Row → Type 0
 Legible rows = map (λ r. kinds_in (letters_of r)) rows ≡ map row_kinds rows
-
--- bytes that are those of some table
-abbrev pub SomeTable : List ℕ → Type 0
-SomeTable s = (rows : List Row) × Tabled rows s
 
 -- the first row with a name, by its number, and the rows with that name after it; or no row has it
 abbrev pub Finds : List Row → List ℕ → Option ℕ → Type 0

@@ -3,14 +3,15 @@ ghost use Rattle.std.specs.Prelude.{◌≡◌, ◌<◌, false, cond, eqb, length
 ghost use Rattle.text.specs.FieldSteps.{left};
 ghost use Rattle.at.specs.Event.{up_to};
 ghost use Rattle.at.specs.Line.{read_line, read_text};
-ghost use Rattle.at.specs.W26.{table, w26, shown};
+ghost use Rattle.at.specs.W26.{table, w26, shown, profile_no, reason_no};
 ghost use Rattle.at.specs.Table.{spelled};
 ghost use Rattle.at.specs.Steps.{is_unsupported, read_peer};
 
 use crate::field::{Field, take_fields};
 use crate::line::{frame_line, head_of};
+use crate::table::{letters, row_named};
 use crate::w26_event::event_of;
-use crate::w26_table::{TABLE, kinds_of, row_named};
+use crate::w26_table::{TABLE, W26};
 use crate::{AtPacketError, ConnHandle, PeerHandle, ReadEvent, Text};
 use text::bytes::part;
 use text::field::Fields;
@@ -25,11 +26,38 @@ pub enum WifiLinkDisconnectedReason {
     NetworkDisabled,
 }
 
+impl From<WifiLinkDisconnectedReason> for u32 {
+    ghost from_gives = { λ r n. n ≡ reason_no r };
+
+    fn from(r: WifiLinkDisconnectedReason) -> u32 {
+        match r {
+            WifiLinkDisconnectedReason::Unknown => 0,
+            WifiLinkDisconnectedReason::RemoteClose => 1,
+            WifiLinkDisconnectedReason::OutOfRange => 2,
+            WifiLinkDisconnectedReason::Roaming => 3,
+            WifiLinkDisconnectedReason::SecurityProblems => 4,
+            WifiLinkDisconnectedReason::NetworkDisabled => 5,
+        }
+    }
+}
+
 #[derive(Clone, Copy)]
 pub enum PeerConnectedProfile {
     TCP,
     UDP,
     MQTT,
+}
+
+impl From<PeerConnectedProfile> for u32 {
+    ghost from_gives = { λ p n. n ≡ profile_no p };
+
+    fn from(p: PeerConnectedProfile) -> u32 {
+        match p {
+            PeerConnectedProfile::TCP => 1,
+            PeerConnectedProfile::UDP => 2,
+            PeerConnectedProfile::MQTT => 6,
+        }
+    }
 }
 
 #[derive(Clone, Copy)]
@@ -218,10 +246,10 @@ fn event_by(
 {
     let mut fields = Field::none();
     let mut by = row;
-    let mut taken = take_fields(&mut fields, kinds_of(row), s, w);
+    let mut taken = take_fields(&mut fields, letters::<W26>(row), s, w);
     if is_left(row, taken) {
         by = UUDPC_BT;
-        taken = take_fields(&mut fields, kinds_of(UUDPC_BT), s, w);
+        taken = take_fields(&mut fields, letters::<W26>(UUDPC_BT), s, w);
     }
     taken?;
     Ok(ReadEvent {
@@ -235,7 +263,7 @@ fn event_in(s: &[u8], start: usize, past: usize) -> Result<ReadEvent<ATEvent>, A
     ensures { shown result ≡ up_to past (read_text table start (drop start s.now)) }
 {
     let h = head_of(s, start);
-    let Some(row) = row_named(part(s, start, h.len)) else {
+    let Some(row) = row_named::<W26>(part(s, start, h.len)) else {
         return Err(AtPacketError::EventUnknown);
     };
     event_by(row, s, h.fields, past)

@@ -1,12 +1,12 @@
 // A W26 event taken apart: the number of its row, and its values.
 ghost use Rattle.std.specs.Prelude.{◌≡◌};
-ghost use Rattle.at.specs.W26.{table, event_of, profile_no, reason_no, type_no};
+ghost use Rattle.at.specs.W26.{table, event_of, type_no};
 ghost use Rattle.at.specs.Parts.{Apart};
 
 use crate::parts::Value::{Number, Place};
 use crate::parts::{Parts, Value};
 use crate::w26;
-use crate::w26::{ATEvent, PeerConnectedProfile, WifiLinkDisconnectedReason};
+use crate::w26::ATEvent;
 
 fn type_number(is_ipv6: bool) -> u32
     ensures { result ≡ type_no is_ipv6 }
@@ -14,29 +14,7 @@ fn type_number(is_ipv6: bool) -> u32
     if is_ipv6 { 3 } else { 2 }
 }
 
-fn protocol_number(p: PeerConnectedProfile) -> u32
-    ensures { result ≡ profile_no p }
-{
-    match p {
-        PeerConnectedProfile::TCP => 1,
-        PeerConnectedProfile::UDP => 2,
-        PeerConnectedProfile::MQTT => 6,
-    }
-}
-
-fn reason_number(r: WifiLinkDisconnectedReason) -> u32
-    ensures { result ≡ reason_no r }
-{
-    match r {
-        WifiLinkDisconnectedReason::Unknown => 0,
-        WifiLinkDisconnectedReason::RemoteClose => 1,
-        WifiLinkDisconnectedReason::OutOfRange => 2,
-        WifiLinkDisconnectedReason::Roaming => 3,
-        WifiLinkDisconnectedReason::SecurityProblems => 4,
-        WifiLinkDisconnectedReason::NetworkDisabled => 5,
-    }
-}
-
+// One arm for each event: part of them in a function of its own would need an arm that no event comes to.
 impl From<ATEvent> for Parts {
     ghost from_gives = { λ e p. Apart table (event_of e) p };
 
@@ -55,7 +33,7 @@ impl From<ATEvent> for Parts {
                 [
                     Value::from(peer_handle.0),
                     Number(type_number(is_ipv6)),
-                    Number(protocol_number(protocol)),
+                    Number(u32::from(protocol)),
                     Place(local_address),
                     Value::from(local_port),
                     Place(remote_address),
@@ -77,7 +55,7 @@ impl From<ATEvent> for Parts {
             ATEvent::WifiLinkDisconnected { conn_id, reason } => {
                 Self::new(
                     w26::UUWLD,
-                    [Value::from(conn_id), Number(reason_number(reason))],
+                    [Value::from(conn_id), Number(u32::from(reason))],
                 )
             }
             ATEvent::WifiAccessPointUp { id } => Self::new(w26::UUWAPU, [Value::from(id)]),

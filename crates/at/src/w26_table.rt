@@ -1,10 +1,7 @@
-// The table of W26 events in bytes (table.rt), and what is looked for in it.
-ghost use Rattle.std.specs.Prelude.{◌≡◌, ◌<◌, length};
+// The table of W26 events in bytes (table.rt).
 ghost use Rattle.at.specs.W26.{table};
-ghost use Rattle.at.specs.Parts.{row_no};
-ghost use Rattle.at.specs.Steps.{Finds, letters_in};
 
-use crate::table::{kinds_at, row_of};
+use crate::table::Rows;
 
 pub(crate) static TABLE: [u8; 520] = *b"\
     \x06\x07+UUDPC     wipswsw\
@@ -34,17 +31,12 @@ pub(crate) static TABLE: [u8; 520] = *b"\
     \x07\x03+UUBTGI    wws    \
     \x06\x05+UUDPC     wtbsw  ";
 
-// The number of the row that has a name.
-pub(crate) fn row_named(name: &[u8]) -> Option<usize>
-    ensures { Finds table name.now result }
-{
-    row_of(&TABLE, name)
-}
+pub(crate) struct W26;
 
-// The letters of a row's kinds.
-pub(crate) fn kinds_of(row: usize) -> &'static [u8]
-    requires { row < length table }
-    ensures { result.now ≡ letters_in (row_no table row) }
-{
-    kinds_at(&TABLE, row)
+impl Rows for W26 {
+    ghost rows = { table };
+
+    fn bytes() -> &'static [u8] {
+        &TABLE
+    }
 }

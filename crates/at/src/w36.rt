@@ -15,7 +15,8 @@ use crate::field::{Field, take_fields};
 use crate::line::{first_line_end, frame_line, head_of};
 use crate::parts::Value::Place;
 use crate::parts::{Parts, Value};
-use crate::w36_table::{TABLE, kinds_of, row_named};
+use crate::table::{letters, row_named};
+use crate::w36_table::{TABLE, W36};
 use crate::{AtPacketError, ReadEvent, SocketId, Text};
 use text::bytes::{part, starts_at};
 use text::field::Fields;
@@ -215,7 +216,7 @@ fn event_by(
     ensures { shown result ≡ up_to past (read_found (row_no table row) (left s.now w)) }
 {
     let mut fields = Field::none();
-    take_fields(&mut fields, kinds_of(row), s, w)?;
+    take_fields(&mut fields, letters::<W36>(row), s, w)?;
     Ok(ReadEvent {
         event: event_of(row, &fields),
         past,
@@ -227,7 +228,7 @@ fn event_in(s: &[u8], start: usize, past: usize) -> Result<ReadEvent<ATEvent>, A
     ensures { shown result ≡ up_to past (read_text table start (drop start s.now)) }
 {
     let h = head_of(s, start);
-    let Some(row) = row_named(part(s, start, h.len)) else {
+    let Some(row) = row_named::<W36>(part(s, start, h.len)) else {
         return Err(AtPacketError::EventUnknown);
     };
     event_by(row, s, h.fields, past)

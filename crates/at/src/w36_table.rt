@@ -1,10 +1,7 @@
-// The table of W36 events in bytes (table.rt), and what is looked for in its rows of text, which stand in front of those of binary.
-ghost use Rattle.std.specs.Prelude.{◌≡◌, ◌<◌, length};
+// The table of W36 events in bytes (table.rt): the rows of text, and then those of binary.
 ghost use Rattle.at.specs.W36.{table};
-ghost use Rattle.at.specs.Parts.{row_no};
-ghost use Rattle.at.specs.Steps.{Finds, letters_in};
 
-use crate::table::{kinds_at, row_of};
+use crate::table::Rows;
 
 pub(crate) static TABLE: [u8; 300] = *b"\
     \x06\x01+UESOC     b      \
@@ -23,17 +20,13 @@ pub(crate) static TABLE: [u8; 300] = *b"\
     \x07\x01+UESODB    b      \
     \x08\x03+UESODBF   bsw    ";
 
-// The number of the row of text that has a name.
-pub(crate) fn row_named(name: &[u8]) -> Option<usize>
-    ensures { Finds table name.now result }
-{
-    row_of(&TABLE[..260], name)
-}
+// The rows of text.
+pub(crate) struct W36;
 
-// The letters of a row's kinds.
-pub(crate) fn kinds_of(row: usize) -> &'static [u8]
-    requires { row < length table }
-    ensures { result.now ≡ letters_in (row_no table row) }
-{
-    kinds_at(&TABLE[..260], row)
+impl Rows for W36 {
+    ghost rows = { table };
+
+    fn bytes() -> &'static [u8] {
+        &TABLE[..260]
+    }
 }

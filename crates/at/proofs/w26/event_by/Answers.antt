@@ -21,10 +21,10 @@ settled : (c : Joined-is_left)
     × (outcome_by table c.if-is_left.by c.if-is_left.fields c.if-is_left.taken ≡ read_peer a.row (left a.s.now a.w))
 settled c =
     let a = c.args in
-    let first = outcome_read table a.row _ (left a.s.now a.w) c.take_fields-taken.new.fields c.take_fields-taken.result c.requires legible-w26 c.kinds_of.ensures c.take_fields-taken.ensures in
+    let first = outcome_read table a.row _ (left a.s.now a.w) c.take_fields-taken.new.fields c.take_fields-taken.result c.requires legible-w26 c.letters.ensures c.take_fields-taken.ensures in
     elim c.if-is_left.branch [
       | then-is_left w ↦
-          let second = outcome_read table 25 _ (left a.s.now a.w) w.take_fields-taken-then-is_left.new.fields w.take_fields-taken-then-is_left.result (omega (arith, rows-w26)) legible-w26 w.kinds_of-then-is_left.ensures w.take_fields-taken-then-is_left.ensures in (
+          let second = outcome_read table 25 _ (left a.s.now a.w) w.take_fields-taken-then-is_left.new.fields w.take_fields-taken-then-is_left.result (omega (arith, rows-w26)) legible-w26 w.letters-then-is_left.ensures w.take_fields-taken-then-is_left.ensures in (
             rw w.by-is (omega (arith, rows-w26)),
             rw (w.by-is, w.fields-is, w.taken-is) (left_read a.row _ _ c.take_fields-taken.result first _ second (sym c.is_left.ensures ∙ w.if-is_left.true)),
           )
@@ -35,13 +35,13 @@ settled c =
     ]
 
 pub take_fields-taken-requires : goal.take_fields-taken-requires
-take_fields-taken-requires c = rw c.kinds_of.ensures (few_letters table c.args.row roomy-w26.0 c.requires)
+take_fields-taken-requires c = rw c.letters.ensures (few_letters table c.args.row roomy-w26.0 c.requires)
 
 pub take_fields-taken-requires-then-is_left : goal.take_fields-taken-requires-then-is_left
-take_fields-taken-requires-then-is_left c = rw c.kinds_of-then-is_left.ensures (few_letters table 25 roomy-w26.0 (omega (arith, rows-w26)))
+take_fields-taken-requires-then-is_left c = rw c.letters-then-is_left.ensures (few_letters table 25 roomy-w26.0 (omega (arith, rows-w26)))
 
-pub kinds_of-requires-then-is_left : goal.kinds_of-requires-then-is_left
-kinds_of-requires-then-is_left c = omega (arith, rows-w26)
+pub letters-requires-then-is_left : goal.letters-requires-then-is_left
+letters-requires-then-is_left c = omega (arith, rows-w26)
 
 pub returns : goal.returns
 returns c =

@@ -12,10 +12,10 @@ use Rattle.at.proofs.w36.event_by.Goals.{After-take_fields}
 
 -- `w36::event_by` meets its contract: the fields taken by the letters of the row are those that the definition reads. Assumes nothing.
 read : (c : After-take_fields) → let a = c.args in outcome_by table a.row c.take_fields.new.fields c.take_fields.result ≡ read_found (row_no table a.row) (left a.s.now a.w)
-read c = outcome_read table c.args.row _ _ c.take_fields.new.fields c.take_fields.result c.requires legible-w36 c.kinds_of.ensures c.take_fields.ensures
+read c = outcome_read table c.args.row _ _ c.take_fields.new.fields c.take_fields.result c.requires legible-w36 c.letters.ensures c.take_fields.ensures
 
 pub take_fields-requires : goal.take_fields-requires
-take_fields-requires c = rw c.kinds_of.ensures (few_letters table c.args.row roomy-w36.0 c.requires)
+take_fields-requires c = rw c.letters.ensures (few_letters table c.args.row roomy-w36.0 c.requires)
 
 pub returns : goal.returns
 returns c = ap (up_to c.args.past) (c.event_of.ensures c.requires ∙ rw c.in_ok-take_fields.was at (read (goal.at.returns c).After-take_fields))

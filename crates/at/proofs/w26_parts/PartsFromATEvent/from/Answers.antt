@@ -6,7 +6,7 @@ use Rattle.at.proofs.w26_parts.PartsFromATEvent.from.Goals as goal
 
 pub returns-in-PeerConnectedIP : goal.returns-in-PeerConnectedIP
 unfolding row_no table
-returns-in-PeerConnectedIP c = rw (c.in-PeerConnectedIP.is, c.new.ensures, c.from.ensures, c.type_number.ensures, c.protocol_number.ensures, c.from-in-PeerConnectedIP.ensures, c.from-in-PeerConnectedIP-2.ensures) (record { listed = search rules; whole = refl; tidy = refl })
+returns-in-PeerConnectedIP c = rw (c.in-PeerConnectedIP.is, c.new.ensures, c.from.ensures, c.type_number.ensures, c.from-in-PeerConnectedIP.ensures, c.from-in-PeerConnectedIP-2.ensures, c.from-in-PeerConnectedIP-3.ensures) (record { listed = search rules; whole = refl; tidy = refl })
 
 pub returns-in-PeerDisconnected : goal.returns-in-PeerDisconnected
 unfolding row_no table
@@ -18,7 +18,7 @@ returns-in-WifiLinkConnected c = rw (c.in-WifiLinkConnected.is, c.new-in-WifiLin
 
 pub returns-in-WifiLinkDisconnected : goal.returns-in-WifiLinkDisconnected
 unfolding row_no table
-returns-in-WifiLinkDisconnected c = rw (c.in-WifiLinkDisconnected.is, c.new-in-WifiLinkDisconnected.ensures, c.from-in-WifiLinkDisconnected.ensures, c.reason_number.ensures) (record { listed = search rules; whole = refl; tidy = refl })
+returns-in-WifiLinkDisconnected c = rw (c.in-WifiLinkDisconnected.is, c.new-in-WifiLinkDisconnected.ensures, c.from-in-WifiLinkDisconnected.ensures, c.from-in-WifiLinkDisconnected-2.ensures) (record { listed = search rules; whole = refl; tidy = refl })
 
 pub returns-in-WifiAccessPointUp : goal.returns-in-WifiAccessPointUp
 unfolding row_no table
