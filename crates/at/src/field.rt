@@ -165,7 +165,7 @@ fn reason_field(field: &[u8]) -> Result<Field, Fault>
     }
 }
 
-// A field that starts at `start`, by the letter of its kind.
+// A field that starts at `start`, by the letter of its kind, since letters are what `table::kinds_at` promises.
 fn field_of(kind: u8, start: usize, field: &[u8]) -> Result<Field, Fault>
     ensures { (i : ℕ) → one_of i (kind_of kind) result ≡ read_field i (kind_of kind) start field.now }
 {

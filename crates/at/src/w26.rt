@@ -167,7 +167,7 @@ pub enum ATEvent {
     },
 }
 
-// The rows of the table, in its order.
+// The rows of the table, in its order. Numbers, since a row's number is what `Parts` and the rows of the C interface hold.
 pub(crate) const UUDPC: usize = 0;
 
 pub(crate) const UUDPD: usize = 1;
@@ -220,7 +220,7 @@ pub(crate) const UUBTGI: usize = 24;
 
 pub(crate) const UUDPC_BT: usize = 25;
 
-// The same rows in bytes (table.rt).
+// The same rows in bytes (table.rt), which are what `rows` promises: a table of names and kinds as values would stand beside them.
 pub fn rows() -> [u8; 520]
     ensures { result ≡ spelled table }
 {
@@ -258,7 +258,7 @@ fn event_by(
     })
 }
 
-// The event of the text from `start` to the end of `s`.
+// The event of the text from `start` to the end of `s`. W36 has one too: a trait for what a radio does with a row would be longer than both.
 fn event_in(s: &[u8], start: usize, past: usize) -> Result<ReadEvent<ATEvent>, AtPacketError>
     ensures { shown result ≡ up_to past (read_text table start (drop start s.now)) }
 {

@@ -10,6 +10,7 @@ use crate::field::Field;
 use crate::w26::{ATEvent, PeerConnectedProfile, WifiLinkDisconnectedReason};
 use crate::{ConnHandle, PeerHandle, Text, w26};
 
+// A protocol that was taken is one of the list, so the last arm is that of 6.
 fn profile_of(n: usize) -> PeerConnectedProfile
     ensures { result ≡ profile_of n }
 {
@@ -20,6 +21,7 @@ fn profile_of(n: usize) -> PeerConnectedProfile
     }
 }
 
+// A reason that was taken is one of the list, so the last arm is that of 5.
 fn reason_of(n: usize) -> WifiLinkDisconnectedReason
     ensures { result ≡ reason_of n }
 {

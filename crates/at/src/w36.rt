@@ -223,7 +223,7 @@ fn event_by(
     })
 }
 
-// The event of the text from `start` to the end of `s`.
+// The event of the text from `start` to the end of `s`, as in w26.rt.
 fn event_in(s: &[u8], start: usize, past: usize) -> Result<ReadEvent<ATEvent>, AtPacketError>
     ensures { shown result ≡ up_to past (read_text table start (drop start s.now)) }
 {
