@@ -1,6 +1,5 @@
 -- How long the line of an explanation is, of an input as long as a line of `replay` may spell: at most 500 bytes.
 use Prim.Native.Nat.{ℕ, ◌+◌, ◌≤◌}
-use mathlib.Core.Path.{◌≡◌, refl}
 use mathlib.Core.List.{List}
 use native.Mathlib.Omega.{arith}
 use lib.ListN.{length}
@@ -18,8 +17,7 @@ use Rattle.checks.specs.Response.{response_checks}
 use Rattle.checks.specs.Binary.{Binary, not_binary, binary, binary_checks}
 use Rattle.checks.specs.Frame.{frame_checks}
 use Rattle.checks.specs.Part.{response_shape, line_shape, binary_shape, parts_by, frame_parts}
-use Rattle.checks.specs.Explained.{fields_in}
-use Rattle.render.specs.Explained.{fields_tried, explains_line, explains_binary_line}
+use Rattle.render.specs.Explained.{explains_line, explains_binary_line}
 use Rattle.render.proofs.PartRoom.{sevens, line_parts_room, binary_parts_room, response_parts_room, frame_parts_room}
 use Rattle.render.proofs.CheckRoom.{found-room, line_short, response-short, IfShort, binary-short, frame-short}
 

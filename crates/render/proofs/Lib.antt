@@ -1,9 +1,9 @@
 pub mod PrintLaws
 pub mod CountLaws
-pub mod NameLaws
 pub mod KindLaws
 pub mod ValueLaws
 pub mod FieldLaws
+pub mod EventLaws
 pub mod OneOutcome
 pub mod Examples
 pub mod WordLengths
@@ -18,6 +18,7 @@ pub mod FrameRoom
 pub mod RangeRoom
 pub mod WhyRoom
 pub mod ExplainedLaws
+pub mod WrittenLaws
 pub mod PartRoom
 pub mod CheckRoom
 pub mod ExplainedRoom

@@ -1,6 +1,6 @@
 -- How long the line of an accepted input is: by the slots into which it is cut, of which there are few, since no event has more than seven fields.
 use Prim.Native.Nat.{ℕ, zero, suc, ◌+◌, ◌*◌, ◌-◌, ◌≤◌, ◌<◌}
-use mathlib.Core.Path.{◌≡◌, refl, sym}
+use mathlib.Core.Path.{◌≡◌, refl}
 use mathlib.Core.List.{List, [], ◌∷◌, ◌++◌, append-nil, append_assoc}
 use mathlib.Core.Bool.{Bool, true, false}
 use native.Mathlib.Omega.{arith}
@@ -16,7 +16,7 @@ use Rattle.at.specs.Parts.{row_no}
 use Rattle.at.specs.Response.{Response, ok, other, error}
 use Rattle.at.specs.Binary as reader
 use Rattle.at.specs.Inside.{IfGood}
-use Rattle.at.specs.Typed.{OfKinds, OfKindsThenData, Listed, ReadTextOf, ReadBinaryOf, TriedTyped}
+use Rattle.at.specs.Typed.{OfKinds, OfKindsThenData, ReadTextOf, TriedTyped}
 use Rattle.at.specs.W26 as w26
 use Rattle.at.specs.W36 as w36
 use Rattle.edm.specs.Packet.{Packet, connect_event, disconnect_event, data_packet, data_command, at_request, at_response, at_packet, resend_packet, start_packet}

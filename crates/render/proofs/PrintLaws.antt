@@ -122,6 +122,11 @@ prints_then {b} {c} {d} {at} {q} {r} {x} {y} p s =
     left : fitting c q y ≡ rest b at x y
     left = rw (p.leaves, same_size b at x y, p.reaches)
 
+-- the same between the pieces: a next b next c
+infixl 20 ◌next◌
+pub ◌next◌ : {b c d : List ℕ} {at q r : ℕ} {x y : List ℕ} → Prints b at x q c → Prints c q y r d → Prints b at (x ++ y) r d
+p next s = prints_then p s
+
 -- with room for all of it
 pub prints-whole : {b e : List ℕ} {at r : ℕ} {ds : List ℕ} → Prints b at ds r e → at + length ds ≤ length b → (r ≡ at + length ds) × (e ≡ placed b at ds)
 prints-whole {b} {e} {at} {r} {ds} p h =

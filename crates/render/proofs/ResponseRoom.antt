@@ -9,8 +9,7 @@ use lib.ListN.{length, take, drop, length-take, length-drop}
 use Rattle.text.specs.Bytes.{bytes, same, starts_with}
 use Rattle.text.specs.Find.{crlf, first_of, last_below, last_of}
 use Rattle.text.specs.Utf8.{utf8}
-use Rattle.text.specs.declared.find.Found.{Found}
-use Rattle.text.specs.declared.find.Found.TheVariants.{At, Nothing}
+use Rattle.std.specs.Prelude.{Option, Some, None}
 use Rattle.at.specs.Line.{ends_in}
 use Rattle.at.specs.Refusal.{good, refused, no}
 use Rattle.at.specs.Response.{ok, other, error, by_last, read_body, read_rest, read_response}
@@ -18,12 +17,12 @@ use Rattle.render.specs.Response.{response_line, response_answer_line}
 use Rattle.render.proofs.WordLengths.{refused-room, data-none, data-place}
 
 -- the last place that is looked for is one of those looked at
-last_below_lem : (t s : List ℕ) (n i : ℕ) → last_below t s n ≡ At i → i < n
+last_below_lem : (t s : List ℕ) (n i : ℕ) → last_below t s n ≡ Some i → i < n
 unfolding last_below
 last_below_lem t s zero i e = let z : ◌≡◌ {A = ℕ} 0 1 = cc in absurd (omega arith)
 last_below_lem t s (suc n) i e = go (starts_with (drop n s) t) e (last_below_lem t s n i)
   where
-    go : (k : Bool) → cond k (At n) (last_below t s n) ≡ At i → (last_below t s n ≡ At i → i < n) → i < suc n
+    go : (k : Bool) → cond k (Some n) (last_below t s n) ≡ Some i → (last_below t s n ≡ Some i → i < n) → i < suc n
     go true e ih = let z : n ≡ i = cc in omega arith
     go false e ih = omega (arith, ih e)
 
@@ -42,11 +41,11 @@ module _ (src : List ℕ) where
       last true i h = ok_room p i (length t) (omega arith)
       last false i h = other_room p (length t) (length t) (omega arith)
 
-      go : (j k : Bool) (f : Found) → last_below crlf t (length t) ≡ f → length (response_line src (cond j (ok p 0) (cond k error (by_last p t f)))) ≤ 2 * length t + 50
+      go : (j k : Bool) (f : Option ℕ) → last_below crlf t (length t) ≡ f → length (response_line src (cond j (ok p 0) (cond k error (by_last p t f)))) ≤ 2 * length t + 50
       go true k f e = ok_room p 0 (length t) (omega arith)
       go false true f e = omega arith
-      go false false (At i) e = last (same (drop (i + 2) t) (bytes "OK")) i (last_below_lem crlf t (length t) i e)
-      go false false Nothing e = other_room p (length t) (length t) (omega arith)
+      go false false (Some i) e = last (same (drop (i + 2) t) (bytes "OK")) i (last_below_lem crlf t (length t) i e)
+      go false false None e = other_room p (length t) (length t) (omega arith)
 
   rest-room : (p : ℕ) (t : List ℕ) → length (response_answer_line src (read_rest p t)) ≤ 2 * length t + 50
   unfolding read_rest

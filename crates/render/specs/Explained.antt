@@ -1,15 +1,17 @@
 -- The line of an explanation: `refused`, the number and the name of the refusal, the byte and the check; or `accepted` and each field with its first
 -- byte and its number of bytes.
-use Rattle.std.specs.Prelude.{ℕ, List, [], ◌∷◌, ◌++◌}
+use Rattle.std.specs.Prelude.{ℕ, List, [], ◌∷◌, ◌++◌, Result, Ok, Err}
 use Rattle.text.specs.Bytes.{bytes}
 use Rattle.text.specs.Decimal.{decimal}
 use Rattle.at.specs.Refusal.{number_of, OrRefused}
 use Rattle.at.specs.Event.{ReadEvent}
 use Rattle.at.specs.Binary as reader
+use Rattle.checks.specs.declared.Accepted.{Accepted}
 use Rattle.checks.specs.declared.CheckName.{CheckName}
+use Rattle.checks.specs.declared.Refused.{Refused}
 use Rattle.checks.specs.Check.{Check, Finding, all_hold, broken, first_broken}
 use Rattle.checks.specs.Binary.{Binary, not_binary, binary}
-use Rattle.checks.specs.Part.{Part, ◌from◌for◌}
+use Rattle.checks.specs.Part.{Part, ◌from◌for◌, left}
 use Rattle.checks.specs.Explained.{Explanation, finding_of, fields_of, fields_in, IfBinary, none, some}
 use Rattle.render.specs.Words.{name_in}
 use Rattle.render.specs.Refusal.{refusals}
@@ -37,6 +39,11 @@ found_line (broken c n b) ps = broken_line c (number_of n) b
 
 abbrev pub explained_line : {A : Type 0} → Explanation A → List ℕ
 explained_line x = found_line (finding_of x) (fields_of x)
+
+-- the same of an explained answer itself, by the numbers of its refusals: what was read makes no difference (`explained_by_lem`)
+abbrev pub explained_by : {A E : Type 0} → (E → ℕ) → List ℕ → Result (Accepted A) (Refused E) → List ℕ
+explained_by number src (Ok a) = accepted_line (left src a.fields)
+explained_by number src (Err r) = broken_line r.check (number r.error) r.byte
 
 -- bytes that are no binary event are answered as by their reader
 abbrev pub binary_line : IfBinary → List ℕ

@@ -5,8 +5,6 @@ use Rattle.checks.specs.declared.CheckName.{CheckName}
 use Rattle.checks.specs.declared.CheckName.TheVariants as check
 use Rattle.checks.specs.declared.part.PartName.{PartName}
 use Rattle.checks.specs.declared.part.PartName.TheVariants as part
-use Rattle.render.specs.declared.label.Label.{Label}
-use Rattle.render.specs.declared.label.Label.TheVariants.{Plain, Field}
 use Rattle.render.specs.Words.{Name, ◌is◌, name_in}
 
 -- the checks of document 01, in the order of `CheckName`
@@ -63,6 +61,11 @@ part_names =
     ∷ (16 is "DataLength")
     ∷ (17 is "EndByte")
     ∷ []
+
+-- the number of a name in its list, and of the field that it is about
+pub data Label : Type 0 where
+  Plain : ℕ → Label
+  Field : ℕ → ℕ → Label
 
 -- a name of a list
 abbrev pub label_word : List Name → Label → List ℕ

@@ -1,27 +1,27 @@
 -- What the private steps of the code say. No promise of a public function cites this file.
-use Rattle.std.specs.Prelude.{ℕ, suc, ◌≡◌, List, [], ◌∷◌, ◌++◌, map, cond, eqb, length}
+use Rattle.std.specs.Prelude.{ℕ, List, ◌++◌, map, cond, eqb, Option, Some, None}
 use Prim.Native.Char.{code}
-use Prim.Native.String.{String}
 use Rattle.text.specs.Bytes.{bytes}
-use Rattle.at.specs.Event.{Kind, bits, text, ip_type, bt_type, protocol, reason, Row}
-use Rattle.at.specs.TableSteps.{Tabled}
-use Rattle.render.specs.Words.{Name, ◌is◌}
+use Rattle.text.specs.Decimal.{decimal}
+use Rattle.at.specs.Event.{Kind, bits, text, ip_type, bt_type, protocol, reason, kinds_of, Event, event}
+use Rattle.render.specs.Words.{values_line}
 use Rattle.render.specs.Event.{Case, case_of}
+use Rattle.render.specs.declared.label.Word.{Word}
 
--- names in bytes: of each its number, its length and itself
-unfoldable pub spelled : List Name → List ℕ
-spelled [] = []
-spelled ((k is name) ∷ names) = k ∷ length (bytes name) ∷ (bytes name ++ spelled names)
+-- a name, and the number of the field right after it, where it is about one
+abbrev pub with_field : List ℕ → Option ℕ → List ℕ
+with_field name None = name
+with_field name (Some i) = name ++ decimal i
 
--- the names of a table's cases, by the numbers of its rows from i on
-unfoldable pub numbered : ℕ → List String → List Name
-numbered i [] = []
-numbered i (name ∷ names) = (i is name) ∷ numbered (suc i) names
+abbrev pub said : Word → List ℕ
+said w = with_field w.name.now w.field
 
--- a table of events in bytes, and the names of its cases in bytes
-pub record Cased (rows : List Row) (cases : List Case) (table names : List ℕ) : Type 0 where
-  pub tabled : Tabled rows table
-  pub names-spelled : names ≡ spelled (numbered 0 (map (case_of cases) rows))
+-- the two parts of an event's line: the name of its case, and its values
+abbrev pub case_word : List Case → Event → List ℕ
+case_word cases (event r vs) = bytes (case_of cases r)
+
+abbrev pub fields_line : List ℕ → Event → List ℕ
+fields_line src (event r vs) = values_line (kinds_of r) src vs
 
 -- the kind of a letter; a number's width does not matter here
 unfoldable pub kind_of : ℕ → Kind

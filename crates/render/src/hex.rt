@@ -10,19 +10,16 @@ fn glyph(n: u8) -> u8
     ensures { result ≡ digit n }
 {
     let digits = *b"0123456789abcdef";
-    digits[n as usize]
+    digits[usize::from(n)]
 }
 
 fn pairs(buf: &mut [u8], at: usize, s: &[u8]) -> usize
     ensures { Prints buf.old at (pairs_of s.now) result buf.new }
 {
     let mut to = at;
-    let mut i = 0;
-    while i < s.len() {
-        let b = s[i];
-        let next = byte(buf, to, glyph(b / 16));
-        to = byte(buf, next, glyph(b % 16));
-        i += 1;
+    for b in s {
+        to = byte(buf, to, glyph(*b / 16));
+        to = byte(buf, to, glyph(*b % 16));
     }
     to
 }
@@ -30,7 +27,7 @@ fn pairs(buf: &mut [u8], at: usize, s: &[u8]) -> usize
 pub(crate) fn hex(buf: &mut [u8], at: usize, s: &[u8]) -> usize
     ensures { Prints buf.old at (hex_of s.now) result buf.new }
 {
-    if s.len() == 0 {
+    if s.is_empty() {
         word(buf, at, b"-")
     } else {
         pairs(buf, at, s)

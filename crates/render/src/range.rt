@@ -22,17 +22,17 @@ fn mark(buf: &mut [u8], at: usize, kept: bool) -> usize
 pub fn range(buf: &mut [u8], at: usize, r: Listed) -> usize
     ensures { Prints buf.old at (range_line r) result buf.new }
 {
-    let a = mark(buf, at, r.kept);
-    let b = number(buf, a, r.start as u64);
-    let c = word(buf, b, b"+");
-    number(buf, c, r.len as u64)
+    let at = mark(buf, at, r.kept);
+    let at = number(buf, at, r.start as u64);
+    let at = word(buf, at, b"+");
+    number(buf, at, r.len as u64)
 }
 
 // A range, and what its frame means.
 pub fn meaning(buf: &mut [u8], at: usize, r: Listed, frame: &[u8]) -> usize
     ensures { Prints buf.old at (range_line r ++ bytes " " ++ frame_line frame.now (read_frame frame.now)) result buf.new }
 {
-    let a = range(buf, at, r);
-    let b = word(buf, a, b" ");
-    crate::frame::answer(buf, b, frame, edm::frame::read(frame))
+    let at = range(buf, at, r);
+    let at = word(buf, at, b" ");
+    crate::frame::answer(buf, at, frame, edm::frame::read(frame))
 }

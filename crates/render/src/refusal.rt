@@ -1,5 +1,6 @@
 // Refusals by their names.
-ghost use Rattle.std.specs.Prelude.{◌≡◌};
+ghost use Rattle.std.specs.Prelude.{◌≡◌, ℕ, List, ◌++◌};
+ghost use Rattle.text.specs.Bytes.{bytes};
 ghost use Rattle.at.specs.Refusal as events;
 ghost use Rattle.edm.specs.Refusal as frames;
 ghost use Rattle.writer.specs.Write as writing;
@@ -8,9 +9,9 @@ ghost use Rattle.scan.specs.Scan as dumps;
 ghost use Rattle.render.specs.Print.{Prints};
 ghost use Rattle.render.specs.Words.{name_in};
 ghost use Rattle.render.specs.Refusal.{refusals, refused_line, frame_refused_line};
+ghost use Rattle.render.specs.Walk.{place_line};
 
-use crate::name::name;
-use crate::word::word;
+use crate::word::{place_after, word};
 use at::AtPacketError;
 use checks::refusal::{at_number, edm_number};
 use edm::EdmPacketError;
@@ -18,109 +19,156 @@ use pcap::CaptureError;
 use scan::ScanError;
 use writer::EventWriteError;
 
-pub(crate) fn refusal_name(buf: &mut [u8], at: usize, n: usize) -> usize
-    ensures { Prints buf.old at (name_in refusals n) result buf.new }
-{
-    let names = b"\x01\x1aPacketDecodeFramingInvalid\
-        \x02\x23PacketDecodeTargetMemorySizeInvalid\
-        \x03\x1ePacketTypeDecodeLengthMismatch\
-        \x04\x12PayloadTypeUnknown\
-        \x05\x17ConnectEventUnsupported\
-        \x06\x17ConnectEventDecodeError\
-        \x07\x1aDisconnectEventDecodeError\
-        \x08\x19AtRequestEventDecodeError\
-        \x09\x17PacketEncodeTypeUnknown\
-        \x0a\x1ePacketEncodePayloadSizeInvalid\
-        \x0b\x10Utf8DecodeFailed\
-        \x0c\x13FramingDecodeFailed\
-        \x0d\x15TypeDecodeUnsupported\
-        \x0e\x1aTypeDecodeParameterMissing\
-        \x0f\x22TypeDecodeParameterDataTypeInvalid\
-        \x10\x0cEventUnknown\
-        \x11\x10FieldNotWritable\
-        \x12\x13EventBufferTooSmall\
-        \x13\x14CaptureHeaderInvalid\
-        \x14\x14CaptureRecordInvalid\
-        \x15\x15CaptureBufferTooSmall\
-        \x16\x0dRangeListFull\
-        \x17\x0bDumpTooLong";
-    name(buf, at, names, n)
+// The refusals of a layer: the number of each, and its line.
+pub trait Refusal: Copy {
+    ghost number: { Self → ℕ };
+
+    ghost line: { Self → List ℕ };
+
+    fn number(self) -> u8
+        ensures { result ≡ number self };
+
+    fn print(self, buf: &mut [u8], at: usize) -> usize
+        ensures { Prints buf.old at (line self) result buf.new };
 }
 
-fn refused(buf: &mut [u8], at: usize, n: usize) -> usize
+// A refusal with the place where what is refused begins.
+pub fn refused_at<E: Refusal>(buf: &mut [u8], at: usize, e: E, place: usize) -> usize
+    ensures { Prints buf.old at (E.line e ++ place_line place) result buf.new }
+{
+    let at = e.print(buf, at);
+    place_after(buf, at, place)
+}
+
+// The name of a number; nothing where it is no refusal's.
+#[tactic(auto, unfolding(crate::specs::Refusal::refusals, crate::specs::Words::name_in))]
+pub(crate) fn refusal_name(n: u8) -> &'static [u8]
+    ensures { result.now ≡ name_in refusals n }
+{
+    match n {
+        1 => b"PacketDecodeFramingInvalid",
+        2 => b"PacketDecodeTargetMemorySizeInvalid",
+        3 => b"PacketTypeDecodeLengthMismatch",
+        4 => b"PayloadTypeUnknown",
+        5 => b"ConnectEventUnsupported",
+        6 => b"ConnectEventDecodeError",
+        7 => b"DisconnectEventDecodeError",
+        8 => b"AtRequestEventDecodeError",
+        9 => b"PacketEncodeTypeUnknown",
+        10 => b"PacketEncodePayloadSizeInvalid",
+        11 => b"Utf8DecodeFailed",
+        12 => b"FramingDecodeFailed",
+        13 => b"TypeDecodeUnsupported",
+        14 => b"TypeDecodeParameterMissing",
+        15 => b"TypeDecodeParameterDataTypeInvalid",
+        16 => b"EventUnknown",
+        17 => b"FieldNotWritable",
+        18 => b"EventBufferTooSmall",
+        19 => b"CaptureHeaderInvalid",
+        20 => b"CaptureRecordInvalid",
+        21 => b"CaptureBufferTooSmall",
+        22 => b"RangeListFull",
+        23 => b"DumpTooLong",
+        _ => b"",
+    }
+}
+
+fn refused(buf: &mut [u8], at: usize, n: u8) -> usize
     ensures { Prints buf.old at (refused_line n) result buf.new }
 {
-    let next = word(buf, at, b"refused ");
-    refusal_name(buf, next, n)
-}
-
-fn write_number(e: EventWriteError) -> usize
-    ensures { result ≡ writing.refusal_no e }
-{
-    match e {
-        EventWriteError::FieldNotWritable => 17,
-        EventWriteError::EventBufferTooSmall => 18,
-    }
-}
-
-fn capture_number(e: CaptureError) -> usize
-    ensures { result ≡ captures.refusal_no e }
-{
-    match e {
-        CaptureError::CaptureHeaderInvalid => 19,
-        CaptureError::CaptureRecordInvalid => 20,
-        CaptureError::CaptureBufferTooSmall => 21,
-    }
-}
-
-fn scan_number(e: ScanError) -> usize
-    ensures { result ≡ dumps.refusal_no e }
-{
-    match e {
-        ScanError::RangeListFull => 22,
-        ScanError::DumpTooLong => 23,
-    }
+    let at = word(buf, at, b"refused ");
+    word(buf, at, refusal_name(n))
 }
 
 // A refusal of a frame: one of the AT layer is wrapped.
-fn frame_refused(buf: &mut [u8], at: usize, n: usize) -> usize
+fn frame_refused(buf: &mut [u8], at: usize, n: u8) -> usize
     ensures { Prints buf.old at (frame_refused_line n) result buf.new }
 {
     if 10 < n {
-        let next = word(buf, at, b"refused AtPacketError ");
-        refusal_name(buf, next, n)
+        let at = word(buf, at, b"refused AtPacketError ");
+        word(buf, at, refusal_name(n))
     } else {
         refused(buf, at, n)
     }
 }
 
-pub(crate) fn of_frame(buf: &mut [u8], at: usize, e: EdmPacketError) -> usize
-    ensures { Prints buf.old at (frame_refused_line (frames.refusal_no e)) result buf.new }
-{
-    frame_refused(buf, at, edm_number(e) as usize)
+impl Refusal for EdmPacketError {
+    ghost number = { frames.refusal_no };
+
+    ghost line = { λ e. frame_refused_line (frames.refusal_no e) };
+
+    fn number(self) -> u8 {
+        edm_number(self)
+    }
+
+    fn print(self, buf: &mut [u8], at: usize) -> usize {
+        frame_refused(buf, at, self.number())
+    }
 }
 
-// The refusal of an AT reader that was called by itself.
-pub fn of_at(buf: &mut [u8], at: usize, e: AtPacketError) -> usize
-    ensures { Prints buf.old at (refused_line (events.refusal_no e)) result buf.new }
-{
-    refused(buf, at, at_number(e) as usize)
+// The refusals of an AT reader that was called by itself.
+impl Refusal for AtPacketError {
+    ghost number = { events.refusal_no };
+
+    ghost line = { λ e. refused_line (events.refusal_no e) };
+
+    fn number(self) -> u8 {
+        at_number(self)
+    }
+
+    fn print(self, buf: &mut [u8], at: usize) -> usize {
+        refused(buf, at, self.number())
+    }
 }
 
-pub(crate) fn of_event_write(buf: &mut [u8], at: usize, e: EventWriteError) -> usize
-    ensures { Prints buf.old at (refused_line (writing.refusal_no e)) result buf.new }
-{
-    refused(buf, at, write_number(e))
+impl Refusal for EventWriteError {
+    ghost number = { writing.refusal_no };
+
+    ghost line = { λ e. refused_line (writing.refusal_no e) };
+
+    fn number(self) -> u8 {
+        match self {
+            EventWriteError::FieldNotWritable => 17,
+            EventWriteError::EventBufferTooSmall => 18,
+        }
+    }
+
+    fn print(self, buf: &mut [u8], at: usize) -> usize {
+        refused(buf, at, self.number())
+    }
 }
 
-pub(crate) fn of_capture(buf: &mut [u8], at: usize, e: CaptureError) -> usize
-    ensures { Prints buf.old at (refused_line (captures.refusal_no e)) result buf.new }
-{
-    refused(buf, at, capture_number(e))
+impl Refusal for CaptureError {
+    ghost number = { captures.refusal_no };
+
+    ghost line = { λ e. refused_line (captures.refusal_no e) };
+
+    fn number(self) -> u8 {
+        match self {
+            CaptureError::CaptureHeaderInvalid => 19,
+            CaptureError::CaptureRecordInvalid => 20,
+            CaptureError::CaptureBufferTooSmall => 21,
+        }
+    }
+
+    fn print(self, buf: &mut [u8], at: usize) -> usize {
+        refused(buf, at, self.number())
+    }
 }
 
-pub fn of_scan(buf: &mut [u8], at: usize, e: ScanError) -> usize
-    ensures { Prints buf.old at (refused_line (dumps.refusal_no e)) result buf.new }
-{
-    refused(buf, at, scan_number(e))
+impl Refusal for ScanError {
+    ghost number = { dumps.refusal_no };
+
+    ghost line = { λ e. refused_line (dumps.refusal_no e) };
+
+    fn number(self) -> u8 {
+        match self {
+            ScanError::RangeListFull => 22,
+            ScanError::DumpTooLong => 23,
+        }
+    }
+
+    fn print(self, buf: &mut [u8], at: usize) -> usize {
+        refused(buf, at, self.number())
+    }
 }

@@ -4,9 +4,10 @@ ghost use Rattle.render.specs.Print.{Prints};
 ghost use Rattle.render.specs.Response.{response_line, response_answer_line};
 
 use crate::field::named_text;
-use crate::refusal::of_at;
+use crate::refusal::Refusal;
 use crate::word::word;
-use at::response::{ATResponse, ResponseAnswer};
+use at::AtPacketError;
+use at::response::ATResponse;
 
 pub(crate) fn response(buf: &mut [u8], at: usize, src: &[u8], a: ATResponse) -> usize
     ensures { Prints buf.old at (response_line src.now (response_of a)) result buf.new }
@@ -18,11 +19,11 @@ pub(crate) fn response(buf: &mut [u8], at: usize, src: &[u8], a: ATResponse) -> 
     }
 }
 
-pub fn answer(buf: &mut [u8], at: usize, src: &[u8], a: ResponseAnswer) -> usize
+pub fn answer(buf: &mut [u8], at: usize, src: &[u8], a: Result<ATResponse, AtPacketError>) -> usize
     ensures { Prints buf.old at (response_answer_line src.now (shown a)) result buf.new }
 {
     match a {
-        ResponseAnswer::Response(r) => response(buf, at, src, r),
-        ResponseAnswer::Refused(e) => of_at(buf, at, e),
+        Ok(r) => response(buf, at, src, r),
+        Err(e) => e.print(buf, at),
     }
 }

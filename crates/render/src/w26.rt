@@ -1,51 +1,56 @@
 // W26 events.
-ghost use Rattle.at.specs.W26.{event_of, shown};
-ghost use Rattle.render.specs.Print.{Prints};
-ghost use Rattle.render.specs.Event.{cases26, event_line, answer_line};
+ghost use Rattle.std.specs.Prelude.{◌≡◌};
+ghost use Rattle.at.specs.W26.{event_of};
+ghost use Rattle.render.specs.Event.{cases26};
+ghost use Rattle.render.specs.Steps.{case_word};
 
-use crate::event::parts_line;
-use crate::refusal::of_at;
-use at::w26::{ATEvent, EventAnswer, rows};
-use at::w26_parts::parts;
+use crate::event::{RadioEvent, fields};
+use crate::word::word;
+use at::parts::Parts;
+use at::w26::{ATEvent, rows};
 
-pub(crate) fn event(buf: &mut [u8], at: usize, src: &[u8], e: ATEvent) -> usize
-    ensures { Prints buf.old at (event_line cases26 src.now (event_of e)) result buf.new }
+#[tactic(auto, unfolding(crate::specs::Event::cases26, crate::specs::Event::case_of, text::specs::Bytes::same))]
+fn case_name(e: ATEvent) -> &'static [u8]
+    ensures { result.now ≡ case_word cases26 (event_of e) }
 {
-    let names = b"\x00\x0fPeerConnectedIP\
-        \x01\x10PeerDisconnected\
-        \x02\x11WifiLinkConnected\
-        \x03\x14WifiLinkDisconnected\
-        \x04\x11WifiAccessPointUp\
-        \x05\x13WifiAccessPointDown\
-        \x06\x1fWifiAccessPointStationConnected\
-        \x07\x22WifiAccessPointStationDisconnected\
-        \x08\x0eEthernetLinkUp\
-        \x09\x10EthernetLinkDown\
-        \x0a\x09NetworkUp\
-        \x0b\x0bNetworkDown\
-        \x0c\x0cNetworkError\
-        \x0d\x0dDataAvailable\
-        \x0e\x09BondEvent\
-        \x0f\x10UserConfirmation\
-        \x10\x12UserPasskeyDisplay\
-        \x11\x10UserPasskeyEntry\
-        \x12\x0cACLConnected\
-        \x13\x0fACLDisconnected\
-        \x14\x11GATTRequestToRead\
-        \x15\x12GATTRequestToWrite\
-        \x16\x1aGATTIndicationConfirmation\
-        \x17\x10GATTNotification\
-        \x18\x0eGATTIndication\
-        \x19\x16PeerConnectedBluetooth";
-    let table = rows();
-    parts_line(buf, at, src, &table, names, parts(e))
+    match e {
+        ATEvent::PeerConnectedIP { .. } => b"PeerConnectedIP",
+        ATEvent::PeerDisconnected { .. } => b"PeerDisconnected",
+        ATEvent::WifiLinkConnected { .. } => b"WifiLinkConnected",
+        ATEvent::WifiLinkDisconnected { .. } => b"WifiLinkDisconnected",
+        ATEvent::WifiAccessPointUp { .. } => b"WifiAccessPointUp",
+        ATEvent::WifiAccessPointDown { .. } => b"WifiAccessPointDown",
+        ATEvent::WifiAccessPointStationConnected { .. } => b"WifiAccessPointStationConnected",
+        ATEvent::WifiAccessPointStationDisconnected { .. } => b"WifiAccessPointStationDisconnected",
+        ATEvent::EthernetLinkUp => b"EthernetLinkUp",
+        ATEvent::EthernetLinkDown => b"EthernetLinkDown",
+        ATEvent::NetworkUp { .. } => b"NetworkUp",
+        ATEvent::NetworkDown { .. } => b"NetworkDown",
+        ATEvent::NetworkError { .. } => b"NetworkError",
+        ATEvent::DataAvailable { .. } => b"DataAvailable",
+        ATEvent::BondEvent { .. } => b"BondEvent",
+        ATEvent::UserConfirmation { .. } => b"UserConfirmation",
+        ATEvent::UserPasskeyDisplay { .. } => b"UserPasskeyDisplay",
+        ATEvent::UserPasskeyEntry { .. } => b"UserPasskeyEntry",
+        ATEvent::ACLConnected { .. } => b"ACLConnected",
+        ATEvent::ACLDisconnected { .. } => b"ACLDisconnected",
+        ATEvent::GATTRequestToRead { .. } => b"GATTRequestToRead",
+        ATEvent::GATTRequestToWrite { .. } => b"GATTRequestToWrite",
+        ATEvent::GATTIndicationConfirmation { .. } => b"GATTIndicationConfirmation",
+        ATEvent::GATTNotification { .. } => b"GATTNotification",
+        ATEvent::GATTIndication { .. } => b"GATTIndication",
+        ATEvent::PeerConnectedBluetooth { .. } => b"PeerConnectedBluetooth",
+    }
 }
 
-pub fn answer(buf: &mut [u8], at: usize, src: &[u8], a: EventAnswer) -> usize
-    ensures { Prints buf.old at (answer_line cases26 src.now (shown a)) result buf.new }
-{
-    match a {
-        EventAnswer::Event { event: e, past: _ } => event(buf, at, src, e),
-        EventAnswer::Refused(e) => of_at(buf, at, e),
+impl RadioEvent for ATEvent {
+    ghost cases = { cases26 };
+
+    ghost says = { event_of };
+
+    fn print(self, buf: &mut [u8], at: usize, src: &[u8]) -> usize {
+        let table = rows();
+        let at = word(buf, at, case_name(self));
+        fields(buf, at, src, &table, Parts::from(self))
     }
 }

@@ -1,82 +1,86 @@
 // W36 events, in text and in binary.
-ghost use Rattle.std.specs.Prelude.{◌++◌};
-ghost use Rattle.at.specs.Refusal.{refusal_no};
-ghost use Rattle.at.specs.W36.{event_of, shown, shown_binary};
+ghost use Rattle.std.specs.Prelude.{◌≡◌};
+ghost use Rattle.at.specs.W36.{event_of, shown_binary};
 ghost use Rattle.at.specs.Walk as walk;
-ghost use Rattle.render.specs.Refusal.{refused_line};
-ghost use Rattle.render.specs.Walk.{place_line, tried_line, step_line};
+ghost use Rattle.render.specs.Walk.{tried_line, step_line};
 ghost use Rattle.render.specs.Print.{Prints};
-ghost use Rattle.render.specs.Event.{cases36, event_line, answer_line};
+ghost use Rattle.render.specs.Event.{cases36};
+ghost use Rattle.render.specs.Steps.{case_word};
 
-use crate::event::parts_line;
-use crate::refusal::of_at;
+use crate::event::{RadioEvent, fields};
+use crate::refusal::{Refusal, refused_at};
 use crate::word::{place_after, word};
-use at::AtPacketError;
-use at::w36::{ATEvent, BinaryAnswer, EventAnswer, parts, rows};
-use at::walk::EventStep;
+use at::parts::Parts;
+use at::w36::{ATEvent, rows};
+use at::walk::{EventRefused, EventStep};
+use at::{AtPacketError, ReadEvent};
 
-fn event(buf: &mut [u8], at: usize, src: &[u8], e: ATEvent) -> usize
-    ensures { Prints buf.old at (event_line cases36 src.now (event_of e)) result buf.new }
+#[tactic(auto, unfolding(crate::specs::Event::cases36, crate::specs::Event::case_of, text::specs::Bytes::same))]
+fn case_name(e: ATEvent) -> &'static [u8]
+    ensures { result.now ≡ case_word cases36 (event_of e) }
 {
-    let names = b"\x00\x0fSocketConnected\
-        \x01\x0cSocketClosed\
-        \x02\x13SocketDataAvailable\
-        \x03\x0aWifiLinkUp\
-        \x04\x0cWifiLinkDown\
-        \x05\x20WifiAccessPointStationAssociated\
-        \x06\x23WifiAccessPointStationDisassociated\
-        \x07\x11WifiAccessPointUp\
-        \x08\x13WifiAccessPointDown\
-        \x09\x10StationNetworkUp\
-        \x0a\x12StationNetworkDown\
-        \x0b\x14AccessPointNetworkUp\
-        \x0c\x16AccessPointNetworkDown\
-        \x0d\x10SocketDataBinary\
-        \x0e\x14SocketDataBinaryFrom";
-    let table = rows();
-    parts_line(buf, at, src, &table, names, parts(e))
-}
-
-pub fn answer(buf: &mut [u8], at: usize, src: &[u8], a: EventAnswer) -> usize
-    ensures { Prints buf.old at (answer_line cases36 src.now (shown a)) result buf.new }
-{
-    match a {
-        EventAnswer::Event { event: e, past: _ } => event(buf, at, src, e),
-        EventAnswer::Refused(e) => of_at(buf, at, e),
+    match e {
+        ATEvent::SocketConnected { .. } => b"SocketConnected",
+        ATEvent::SocketClosed { .. } => b"SocketClosed",
+        ATEvent::SocketDataAvailable { .. } => b"SocketDataAvailable",
+        ATEvent::WifiLinkUp { .. } => b"WifiLinkUp",
+        ATEvent::WifiLinkDown { .. } => b"WifiLinkDown",
+        ATEvent::WifiAccessPointStationAssociated { .. } => b"WifiAccessPointStationAssociated",
+        ATEvent::WifiAccessPointStationDisassociated { .. } =>
+            b"WifiAccessPointStationDisassociated",
+        ATEvent::WifiAccessPointUp => b"WifiAccessPointUp",
+        ATEvent::WifiAccessPointDown => b"WifiAccessPointDown",
+        ATEvent::StationNetworkUp => b"StationNetworkUp",
+        ATEvent::StationNetworkDown => b"StationNetworkDown",
+        ATEvent::AccessPointNetworkUp => b"AccessPointNetworkUp",
+        ATEvent::AccessPointNetworkDown => b"AccessPointNetworkDown",
+        ATEvent::SocketDataBinary { .. } => b"SocketDataBinary",
+        ATEvent::SocketDataBinaryFrom { .. } => b"SocketDataBinaryFrom",
     }
 }
 
-pub fn binary_answer(buf: &mut [u8], at: usize, src: &[u8], a: BinaryAnswer) -> usize
+impl RadioEvent for ATEvent {
+    ghost cases = { cases36 };
+
+    ghost says = { event_of };
+
+    fn print(self, buf: &mut [u8], at: usize, src: &[u8]) -> usize {
+        let table = rows();
+        let at = word(buf, at, case_name(self));
+        fields(buf, at, src, &table, Parts::from(self))
+    }
+}
+
+pub fn binary_answer(
+    buf: &mut [u8],
+    at: usize,
+    src: &[u8],
+    a: Result<Option<ReadEvent<ATEvent>>, AtPacketError>,
+) -> usize
     ensures { Prints buf.old at (tried_line src.now (shown_binary a)) result buf.new }
 {
     match a {
-        BinaryAnswer::Event { event: e, past: _ } => event(buf, at, src, e),
-        BinaryAnswer::NotBinary => word(buf, at, b"notbinary"),
-        BinaryAnswer::Refused(e) => of_at(buf, at, e),
+        Ok(Some(r)) => r.event.print(buf, at, src),
+        Ok(None) => word(buf, at, b"notbinary"),
+        Err(e) => e.print(buf, at),
     }
 }
 
-fn event_up_to(buf: &mut [u8], at: usize, src: &[u8], e: ATEvent, past: usize) -> usize
-    ensures { Prints buf.old at (event_line cases36 src.now (event_of e) ++ place_line past) result buf.new }
-{
-    let next = event(buf, at, src, e);
-    place_after(buf, next, past)
-}
-
-fn refused_at(buf: &mut [u8], at: usize, e: AtPacketError, place: usize) -> usize
-    ensures { Prints buf.old at (refused_line (refusal_no e) ++ place_line place) result buf.new }
-{
-    let next = of_at(buf, at, e);
-    place_after(buf, next, place)
-}
-
 // A step of a walk: an event with the place just past it, the end, or a refusal with the place where the refused event begins.
-pub fn step(buf: &mut [u8], at: usize, src: &[u8], s: EventStep) -> usize
+pub fn step(
+    buf: &mut [u8],
+    at: usize,
+    src: &[u8],
+    s: Result<Option<EventStep>, EventRefused>,
+) -> usize
     ensures { Prints buf.old at (step_line src.now (walk.shown s)) result buf.new }
 {
     match s {
-        EventStep::Event { event: e, rest } => event_up_to(buf, at, src, e, rest.at),
-        EventStep::End => word(buf, at, b"end"),
-        EventStep::Refused { error, at: place } => refused_at(buf, at, error, place),
+        Ok(Some(x)) => {
+            let at = x.event.print(buf, at, src);
+            place_after(buf, at, x.rest.at)
+        }
+        Ok(None) => word(buf, at, b"end"),
+        Err(r) => refused_at(buf, at, r.error, r.at),
     }
 }

@@ -19,10 +19,8 @@ pub fn word(buf: &mut [u8], at: usize, s: &[u8]) -> usize
     ensures { Prints buf.old at s.now result buf.new }
 {
     let mut to = at;
-    let mut i = 0;
-    while i < s.len() {
-        to = byte(buf, to, s[i]);
-        i += 1;
+    for b in s {
+        to = byte(buf, to, *b);
     }
     to
 }
@@ -39,6 +37,6 @@ pub fn number(buf: &mut [u8], at: usize, n: u64) -> usize
 pub(crate) fn place_after(buf: &mut [u8], at: usize, place: usize) -> usize
     ensures { Prints buf.old at (place_line place) result buf.new }
 {
-    let next = word(buf, at, b" @");
-    number(buf, next, place as u64)
+    let at = word(buf, at, b" @");
+    number(buf, at, place as u64)
 }

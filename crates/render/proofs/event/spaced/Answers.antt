@@ -30,4 +30,4 @@ returns-then-kind-eq116 c = rw c.if-kind-eq116.true (prints-none _ _)
 
 pub returns : goal.returns
 returns c =
-    rw (other _ _ _ (ne_eqb _ 116 c.if-kind-eq116.false)) (prints_then c.word-next.ensures c.value.ensures)
+    rw (other _ _ _ (ne_eqb _ 116 c.if-kind-eq116.false)) (prints_then c.word-at.ensures c.value.ensures)

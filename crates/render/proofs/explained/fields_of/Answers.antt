@@ -1,36 +1,25 @@
-use Prim.Native.Nat.{ℕ}
-use mathlib.Core.Path.{◌≡◌, refl, sym, ap, ◌∙◌}
-use mathlib.Core.List.{List, []}
+use mathlib.Core.Path.{◌≡◌, sym, ap, ◌∙◌}
+use mathlib.Core.List.{[]}
 use native.Mathlib.Omega.{arith}
 use lib.ListN.{length}
 use Rattle.checks.specs.Part.{left, shown}
-use Rattle.render.specs.Print.{Prints}
 use Rattle.render.specs.Explained.{parts_line}
 use Rattle.render.proofs.PrintLaws.{prints-none, prints_then}
 use Rattle.render.proofs.explained.fields_of.Goals as goal
 
-pub loop-name-init : goal.loop-name-init
-loop-name-init c = (refl, λ r e h. h)
+-- `explained::fields_of` meets its contract. Assumes nothing.
+pub loop-p-smaller : goal.loop-p-smaller
+loop-p-smaller c = omega (arith, ap length (ap (shown _) (sym c.in-Some.is) ∙ c.next.ensures))
 
-pub loop-name-smaller : goal.loop-name-smaller
-loop-name-smaller c = omega (arith, ap length (ap (shown _) (sym c.in-Part.is) ∙ c.next.ensures))
-
-pub loop-name-preserved : goal.loop-name-preserved
+pub loop-p-preserved : goal.loop-p-preserved
 unfolding parts_line
-loop-name-preserved c = let l = c.loop-name in
-    let s = c.args.src.now in
-    let step = ap (shown s) (sym c.in-Part.is) ∙ c.next.ensures in
-    let said = c.field-to in (
-      said.auto.buf ∙ l.invariant.0,
-      λ r e h. l.invariant.1 r e (rw (sym step) (prints_then said.ensures h)),
-    )
+loop-p-preserved c =
+    let step = ap (shown c.args.src.now) (sym c.in-Some.is) ∙ c.next.ensures in
+    λ r e h. c.loop-p.invariant r e (rw (sym step) (prints_then c.field-to.ensures h))
 
-pub shape_of-buf-in-End : goal.shape_of-buf-in-End
-shape_of-buf-in-End c = c.loop-name.invariant.0
-
-pub returns-in-End : goal.returns-in-End
+pub returns : goal.returns
 unfolding parts_line
-returns-in-End c = let l = c.loop-name in
-    let s = c.args.src.now in
-    let done : [] ≡ left s l.walk = ap (shown s) (sym c.in-End.is) ∙ c.next.ensures in
-    l.invariant.1 _ _ (rw (sym done) (prints-none _ _))
+returns c =
+    let l = c.loop-p in
+    let done : [] ≡ left c.args.src.now l.walk = ap (shown c.args.src.now) (sym c.in_default.is) ∙ c.next.ensures in
+    l.invariant _ _ (rw (sym done) (prints-none _ _))

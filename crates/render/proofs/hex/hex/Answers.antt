@@ -1,7 +1,8 @@
-use mathlib.Core.Path.{◌≡◌, refl}
+use mathlib.Core.Path.{◌≡◌, refl, sym, ◌∙◌}
 use mathlib.Core.List.{List, [], ◌∷◌}
 use Prim.Native.Nat.{ℕ}
 use native.Mathlib.Omega.{arith}
+use borrow.Author.Tests.{eqb-true, eqb-false}
 use lib.ListN.{length}
 use Rattle.text.specs.Bytes.{bytes}
 use Rattle.render.specs.Words.{pairs_of, hex_of}
@@ -16,8 +17,12 @@ hex-some : (s : List ℕ) → (length s ≡ 0 → ⊥) → hex_of s ≡ pairs_of
 hex-some [] h = absurd (h refl)
 hex-some (b ∷ s) h = refl
 
-pub returns-then-s-eq0 : goal.returns-then-s-eq0
-returns-then-s-eq0 c = rw (hex-none c.args.s.now c.if-s-eq0.true) c.word.ensures
+pub returns-then-is_empty : goal.returns-then-is_empty
+returns-then-is_empty c =
+    let none = eqb-true (length c.args.s.now) 0 (sym c.is_empty.ensures ∙ c.if-is_empty.true) in
+    rw (hex-none _ none) c.word.ensures
 
-pub returns-else-s-eq0 : goal.returns-else-s-eq0
-returns-else-s-eq0 c = rw (hex-some c.args.s.now c.if-s-eq0.false) c.pairs.ensures
+pub returns-else-is_empty : goal.returns-else-is_empty
+returns-else-is_empty c =
+    let some = eqb-false (length c.args.s.now) 0 (sym c.is_empty.ensures ∙ c.if-is_empty.false) in
+    rw (hex-some _ some) c.pairs.ensures

@@ -1,11 +1,8 @@
+use Rattle.render.proofs.PrintLaws.{◌next◌}
 use Rattle.render.proofs.w36.step.Goals as goal
 
 -- `w36::step` meets its contract. Assumes nothing.
-pub returns-in-Event : goal.returns-in-Event
-returns-in-Event c = rw c.in-Event.is c.event_up_to.ensures
-
-pub returns-in-End : goal.returns-in-End
-returns-in-End c = rw c.in-End.is c.word.ensures
-
-pub returns-in-Refused : goal.returns-in-Refused
-returns-in-Refused c = rw c.in-Refused.is c.refused_at.ensures
+pub returns-in-Ok-Some : goal.returns-in-Ok-Some
+returns-in-Ok-Some c =
+    let some = rw c.in-Ok-Some.is at c.in-Ok-Some.field-0-is in
+    rw (c.in-Ok-Some.is, some) (c.print-at.ensures next c.place_after.ensures)

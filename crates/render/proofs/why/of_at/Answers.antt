@@ -1,21 +1,27 @@
+use Prim.Native.Nat.{ℕ}
+use mathlib.Core.Path.{◌≡◌, refl}
+use mathlib.Core.List.{[]}
+use Rattle.at.specs.Refusal.{refusal_of}
+use Rattle.at.specs.declared.FieldError.{FieldError}
+use Rattle.at.specs.declared.AtPacketError.{AtPacketError}
+use Rattle.at.specs.declared.AtPacketError.TheVariants as error
+use Rattle.render.specs.Why.{carried_line}
 use Rattle.render.proofs.PrintLaws.{prints-none}
 use Rattle.render.proofs.why.of_at.Goals as goal
 
--- `why::of_at` meets its contract. Assumes nothing.
-pub returns-in-Utf8DecodeFailed : goal.returns-in-Utf8DecodeFailed
-returns-in-Utf8DecodeFailed c = rw c.in-Utf8DecodeFailed.is (prints-none _ _)
+-- `why::of_at` meets its contract: only two refusals carry something. Assumes nothing.
+nothing_carried : (e : AtPacketError)
+    → ((i : ℕ) → e ≡ error.TypeDecodeParameterMissing i → ⊥)
+    → ((i : ℕ) (why : FieldError) → e ≡ error.TypeDecodeParameterDataTypeInvalid i why → ⊥)
+    → carried_line (refusal_of e) ≡ []
+nothing_carried error.Utf8DecodeFailed m d = refl
+nothing_carried error.FramingDecodeFailed m d = refl
+nothing_carried error.TypeDecodeUnsupported m d = refl
+nothing_carried (error.TypeDecodeParameterMissing i) m d = absurd (m i refl)
+nothing_carried (error.TypeDecodeParameterDataTypeInvalid i why) m d = absurd (d i why refl)
+nothing_carried error.EventUnknown m d = refl
 
-pub returns-in-FramingDecodeFailed : goal.returns-in-FramingDecodeFailed
-returns-in-FramingDecodeFailed c = rw c.in-FramingDecodeFailed.is (prints-none _ _)
-
-pub returns-in-TypeDecodeUnsupported : goal.returns-in-TypeDecodeUnsupported
-returns-in-TypeDecodeUnsupported c = rw c.in-TypeDecodeUnsupported.is (prints-none _ _)
-
-pub returns-in-TypeDecodeParameterMissing : goal.returns-in-TypeDecodeParameterMissing
-returns-in-TypeDecodeParameterMissing c = rw c.in-TypeDecodeParameterMissing.is c.field_number.ensures
-
-pub returns-in-TypeDecodeParameterDataTypeInvalid : goal.returns-in-TypeDecodeParameterDataTypeInvalid
-returns-in-TypeDecodeParameterDataTypeInvalid c = rw c.in-TypeDecodeParameterDataTypeInvalid.is c.wrong_field.ensures
-
-pub returns-in-EventUnknown : goal.returns-in-EventUnknown
-returns-in-EventUnknown c = rw c.in-EventUnknown.is (prints-none _ _)
+pub returns-in_default : goal.returns-in_default
+returns-in_default c =
+    let rest = c.in_default in
+    rw (nothing_carried _ rest.not-TypeDecodeParameterMissing rest.not-TypeDecodeParameterDataTypeInvalid) (prints-none _ _)

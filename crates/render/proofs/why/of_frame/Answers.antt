@@ -1,36 +1,26 @@
+use mathlib.Core.Path.{◌≡◌, refl}
+use mathlib.Core.List.{[]}
+use Rattle.at.specs.declared.AtPacketError.{AtPacketError}
+use Rattle.edm.specs.Refusal.{refusal_of}
+use Rattle.edm.specs.declared.EdmPacketError.{EdmPacketError}
+use Rattle.edm.specs.declared.EdmPacketError.TheVariants as error
+use Rattle.render.specs.Why.{carried_line}
 use Rattle.render.proofs.PrintLaws.{prints-none}
 use Rattle.render.proofs.why.of_frame.Goals as goal
 
--- `why::of_frame` meets its contract. Assumes nothing.
-pub returns-in-PacketDecodeFramingInvalid : goal.returns-in-PacketDecodeFramingInvalid
-returns-in-PacketDecodeFramingInvalid c = rw c.in-PacketDecodeFramingInvalid.is (prints-none _ _)
+-- `why::of_frame` meets its contract: a refusal of the frame itself carries nothing. Assumes nothing.
+nothing_carried : (e : EdmPacketError) → ((a : AtPacketError) → e ≡ error.AtPacketError a → ⊥) → carried_line (refusal_of e) ≡ []
+nothing_carried error.PacketDecodeFramingInvalid h = refl
+nothing_carried error.PacketDecodeTargetMemorySizeInvalid h = refl
+nothing_carried error.PacketTypeDecodeLengthMismatch h = refl
+nothing_carried error.PayloadTypeUnknown h = refl
+nothing_carried error.ConnectEventUnsupported h = refl
+nothing_carried error.ConnectEventDecodeError h = refl
+nothing_carried error.DisconnectEventDecodeError h = refl
+nothing_carried error.AtRequestEventDecodeError h = refl
+nothing_carried error.PacketEncodeTypeUnknown h = refl
+nothing_carried error.PacketEncodePayloadSizeInvalid h = refl
+nothing_carried (error.AtPacketError a) h = absurd (h a refl)
 
-pub returns-in-PacketDecodeTargetMemorySizeInvalid : goal.returns-in-PacketDecodeTargetMemorySizeInvalid
-returns-in-PacketDecodeTargetMemorySizeInvalid c = rw c.in-PacketDecodeTargetMemorySizeInvalid.is (prints-none _ _)
-
-pub returns-in-PacketTypeDecodeLengthMismatch : goal.returns-in-PacketTypeDecodeLengthMismatch
-returns-in-PacketTypeDecodeLengthMismatch c = rw c.in-PacketTypeDecodeLengthMismatch.is (prints-none _ _)
-
-pub returns-in-PayloadTypeUnknown : goal.returns-in-PayloadTypeUnknown
-returns-in-PayloadTypeUnknown c = rw c.in-PayloadTypeUnknown.is (prints-none _ _)
-
-pub returns-in-ConnectEventUnsupported : goal.returns-in-ConnectEventUnsupported
-returns-in-ConnectEventUnsupported c = rw c.in-ConnectEventUnsupported.is (prints-none _ _)
-
-pub returns-in-ConnectEventDecodeError : goal.returns-in-ConnectEventDecodeError
-returns-in-ConnectEventDecodeError c = rw c.in-ConnectEventDecodeError.is (prints-none _ _)
-
-pub returns-in-DisconnectEventDecodeError : goal.returns-in-DisconnectEventDecodeError
-returns-in-DisconnectEventDecodeError c = rw c.in-DisconnectEventDecodeError.is (prints-none _ _)
-
-pub returns-in-AtRequestEventDecodeError : goal.returns-in-AtRequestEventDecodeError
-returns-in-AtRequestEventDecodeError c = rw c.in-AtRequestEventDecodeError.is (prints-none _ _)
-
-pub returns-in-PacketEncodeTypeUnknown : goal.returns-in-PacketEncodeTypeUnknown
-returns-in-PacketEncodeTypeUnknown c = rw c.in-PacketEncodeTypeUnknown.is (prints-none _ _)
-
-pub returns-in-PacketEncodePayloadSizeInvalid : goal.returns-in-PacketEncodePayloadSizeInvalid
-returns-in-PacketEncodePayloadSizeInvalid c = rw c.in-PacketEncodePayloadSizeInvalid.is (prints-none _ _)
-
-pub returns-in-AtPacketError : goal.returns-in-AtPacketError
-returns-in-AtPacketError c = rw c.in-AtPacketError.is c.of_at.ensures
+pub returns-in_default : goal.returns-in_default
+returns-in_default c = rw (nothing_carried _ c.in_default.not-AtPacketError) (prints-none _ _)

@@ -1,38 +1,12 @@
-use Prim.Native.Nat.{ℕ, ◌-◌, ◌≤◌}
-use mathlib.Core.Path.{◌≡◌, refl, ◌∙◌}
-use mathlib.Core.List.{List}
-use native.Mathlib.Omega.{arith}
-use native.Mathlib.Numerals.{add-one}
-use lib.ListN.{length, drop, drop_of_length-le}
-use lib.Seq.{drop-cons}
-use Rattle.render.specs.Print.{Prints}
-use Rattle.render.proofs.PrintLaws.{prints-none, prints_then}
+use Rattle.std.proofs.lemmas.List.{take_more}
+use Rattle.render.proofs.PrintLaws.{prints_then, prints-none}
 use Rattle.render.proofs.word.word.Goals as goal
 
-pub loop-i-init : goal.loop-i-init
-loop-i-init c = (omega arith, refl, λ r e h. h)
+-- `word::word` meets its contract. Assumes nothing.
+pub loop-b-init : goal.loop-b-init
+loop-b-init c = prints-none _ _
 
-pub bounds-s-i : goal.bounds-s-i
-bounds-s-i c = omega arith
-
-pub overflow_add-i : goal.overflow_add-i
-overflow_add-i c = omega arith
-
-pub loop-i-smaller : goal.loop-i-smaller
-loop-i-smaller c = omega arith
-
-pub loop-i-preserved : goal.loop-i-preserved
-loop-i-preserved c =
-    let l = c.loop-i in
-    let s = c.args.s.now in
-    let cut = rw (← add-one l.i) at (drop-cons s l.i 0 c.loop-i-test.true) in
-    (omega arith, c.byte-to.auto.buf ∙ l.invariant.1, λ r e h. l.invariant.2 r e (rw cut (prints_then c.byte-to.ensures h)))
-
-pub shape_of-buf : goal.shape_of-buf
-shape_of-buf c = c.loop-i.invariant.1
-
-pub returns : goal.returns
-returns c =
-    let l = c.loop-i in
-    let done = drop_of_length-le c.args.s.now {i = l.i} c.loop-i-test.false in
-    l.invariant.2 l.to l.buf (rw done (prints-none l.buf l.to))
+pub loop-b-preserved : goal.loop-b-preserved
+loop-b-preserved c =
+    let l = c.loop-b in
+    rw (take_more c.args.s.now l.b-index 0 c.loop-b-test.true) (prints_then l.invariant c.byte-to.ensures)

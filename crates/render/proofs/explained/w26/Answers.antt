@@ -1,8 +1,0 @@
-use Rattle.render.proofs.explained.w26.Goals as goal
-
--- `explained::w26` meets its contract. Assumes nothing.
-pub returns-in-Accepted : goal.returns-in-Accepted
-returns-in-Accepted c = rw c.in-Accepted.is c.accepted.ensures
-
-pub returns-in-Refused : goal.returns-in-Refused
-returns-in-Refused c = rw c.in-Refused.is (rw c.at_number.ensures at c.refused.ensures)

@@ -1,6 +1,0 @@
-use Rattle.render.proofs.PrintLaws.{prints_then}
-use Rattle.render.proofs.frame.at_event.Goals as goal
-
--- `frame::at_event` meets its contract. Assumes nothing.
-pub returns : goal.returns
-returns c = prints_then c.word-next.ensures c.event.ensures

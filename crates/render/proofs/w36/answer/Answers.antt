@@ -1,8 +1,0 @@
-use Rattle.render.proofs.w36.answer.Goals as goal
-
--- `w36::answer` meets its contract. Assumes nothing.
-pub returns-in-Event : goal.returns-in-Event
-returns-in-Event c = rw c.in-Event.is c.event.ensures
-
-pub returns-in-Refused : goal.returns-in-Refused
-returns-in-Refused c = rw c.in-Refused.is c.of_at.ensures

@@ -1,8 +1,0 @@
-use Rattle.render.proofs.written.frame.Goals as goal
-
--- `written::frame` meets its contract. Assumes nothing.
-pub returns-in-Wrote : goal.returns-in-Wrote
-returns-in-Wrote c = rw c.in-Wrote.is c.wrote.ensures
-
-pub returns-in-Refused : goal.returns-in-Refused
-returns-in-Refused c = rw c.in-Refused.is c.of_frame.ensures
