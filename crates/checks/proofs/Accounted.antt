@@ -59,7 +59,7 @@ starts_inside read n none s p v e = go (leb p (length s)) refl
     go false h =
         let l : length s ≤ p = omega (arith, leb-false p (length s) h) in
         let g = sym none ∙ ap read (sym (drop_of_length-le s l)) ∙ e in
-        let z : ◌≡◌ {A = ℕ} 0 1 = cc in absurd (omega arith)
+        absurd cc
 
 by_shape : (k : Shape) (ks : List Kind) (s : List ℕ) (p : ℕ) (ps : List Part) (vs : List Value) → p ≤ length s → ps ≡ parts_by k s p → Came ks s (parts_by k s p) vs → Accounts ks s p ps vs
 by_shape k ks s p ps vs h f c = rw f (record { order = parts_in_order k s p; within = parts_within k s p h; came = c })
@@ -102,7 +102,7 @@ tried-inside s p e f = go (leb p (length s)) refl
     go false h =
         let l : length s ≤ p = omega (arith, leb-false p (length s) h) in
         let g = sym (rows_none binary_table p) ∙ ap (try_rows binary_table p) (sym (drop_of_length-le s l)) ∙ f in
-        let z : ◌≡◌ {A = ℕ} 0 1 = cc in absurd (omega arith)
+        absurd cc
 
 pub binary_accounted : (κs : Lfts 1) (a : Dens κs explain_binary.Kinds.ps) (t : AtExit (ended_of 1 explain_binary.Kinds.ps explain_binary.Kinds.r) κs) (q : event36.ATEvent) (past : ℕ) (w : PartWalk)
     → explain_binary.Reads.Post κs a (Ok (Some (record { answer = record { event = q; past = past }; fields = w }))) t
@@ -120,7 +120,7 @@ binary_accounted κs a t q past w x = go (binary_checks binary_table p (drop p s
 
     go : (b : Binary) (r : Tried) → try_rows binary_table p (drop p s) ≡ r
         → ExplainsBinary b r (λ d. parts_by (binary_shape (length s) d) s p) (some (accepted e (left s w))) → Accounts (read_kinds e) s p (left s w) (read_values e)
-    go not_binary r f x = let n = x.0 in let z : ◌≡◌ {A = ℕ} 0 1 = cc in absurd (omega arith)
+    go not_binary r f x = let n = x.0 in absurd cc
     go (binary checks) reader.not_binary f x = absurd x
     go (binary checks) (reader.tried d) f x =
         let g : d ≡ good e = sym x.answers in

@@ -29,7 +29,7 @@ use Rattle.checks.proofs.TextTie.{typeless, no_type}
 -- a text that is cut at its first commas only: its fields start where those of the text that is cut at every comma do
 grow_start : (p b : ℕ) (fs : List Field) → is_there fs ≡ true → start_of (grow p b fs) ≡ p
 grow_start p b (field q f ∷ fs) h = refl
-grow_start p b [] h = let z : ◌≡◌ {A = ℕ} 0 1 = cc in absurd (omega arith)
+grow_start p b [] h = absurd cc
 
 grow_there : (p b : ℕ) (fs : List Field) → is_there (grow p b fs) ≡ is_there fs
 grow_there p b [] = refl
@@ -112,7 +112,7 @@ data_twelve p t n e = go (leb 2 (length t)) (leb (announced t) (length t - 2)) e
     go : (a b : Bool) → cond a (cond b (good (data_at (p + 2) (announced t))) (refused (no 12))) (refused (no 12)) ≡ refused n → n ≡ no 12
     go false b e = cc
     go true false e = cc
-    go true true e = let z : ◌≡◌ {A = ℕ} 0 1 = cc in absurd (omega arith)
+    go true true e = absurd cc
 
 -- what is found of a body
 abbrev pub found_body : ℕ → List ℕ → OrRefused ReadEvent → Finding

@@ -3,7 +3,6 @@ use Prim.Native.Nat.{ℕ}
 use mathlib.Core.Path.{◌≡◌, refl, ap}
 use mathlib.Core.List.{List, [], ◌∷◌, ◌++◌}
 use mathlib.Core.Bool.{Bool, true, false, not, false≢true}
-use native.Mathlib.Omega.{arith}
 use lib.Dec.{leb, ltb}
 use borrow.Author.Tests.{leb-true, leb-false, lt-ltb, le-ltb}
 use Rattle.at.specs.Refusal.{Refusal}
@@ -25,7 +24,7 @@ later d m a checks c n b r =
 -- what is named is the true reason
 pub true_reason : (checks : List Check) (c : CheckName) (n : Refusal) (b : ℕ) → first_broken checks ≡ broken c n b → TrueReason checks c n b
 unfolding first_broken every_holds
-true_reason [] c n b e = let z : ◌≡◌ {A = ℕ} 0 1 = cc in absurd (omega arith)
+true_reason [] c n b e = absurd cc
 true_reason ((d needs true else m at a) ∷ checks) c n b e = later d m a checks c n b (true_reason checks c n b e)
 true_reason ((d needs false else m at a) ∷ checks) c n b e =
     let x : d ≡ c = cc in
@@ -38,7 +37,7 @@ pub all_hold_lem : (checks : List Check) → first_broken checks ≡ all_hold �
 unfolding first_broken every_holds
 all_hold_lem [] e = refl
 all_hold_lem ((d needs true else m at a) ∷ checks) e = all_hold_lem checks e
-all_hold_lem ((d needs false else m at a) ∷ checks) e = let z : ◌≡◌ {A = ℕ} 0 1 = cc in absurd (omega arith)
+all_hold_lem ((d needs false else m at a) ∷ checks) e = absurd cc
 
 -- and a true reason is what is named, so that there is one only
 pub named-first : (checks : List Check) (c : CheckName) (n : Refusal) (b : ℕ) → TrueReason checks c n b → first_broken checks ≡ broken c n b

@@ -107,7 +107,7 @@ module _ (s : List ℕ) (p : ℕ) where
       go false q =
           let l : length s ≤ p = omega (arith, leb-false p (length s) q) in
           let g = rw (drop_of_length-le s l, line_none radio p) at f in
-          let z : ◌≡◌ {A = ℕ} 0 1 = cc in absurd (omega arith)
+          absurd cc
 
   pub w26-passed : (e : ReadEvent) → read_line w26 p (drop p s) ≡ good e → LinePassed s p e
   w26-passed = accepted-passed w26 keeps_26

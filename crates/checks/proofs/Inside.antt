@@ -50,7 +50,7 @@ Within n ((c needs t else k at b) ∷ checks) = (b ≤ n) × (t ≡ true → Wit
 
 within : (n : ℕ) (checks : List Check) → Within n checks → (c : CheckName) (k : Refusal) (b : ℕ) → broken c k b ≡ first_broken checks → b ≤ n
 unfolding first_broken
-within n [] w c k b e = let z : ◌≡◌ {A = ℕ} 0 1 = cc in absurd (omega arith)
+within n [] w c k b e = absurd cc
 within n ((d needs true else m at a) ∷ checks) w c k b e = within n checks (w.1 refl) c k b e
 within n ((d needs false else m at a) ∷ checks) w c k b e = let z : b ≡ a = cc in rw z w.0
 
@@ -164,6 +164,6 @@ binary-byte κs a t e c b h x =
   where
     go : (k : Binary) (q : Tried) → WithinBinary (length a.0.now) k
         → ExplainsBinary k q (λ d. parts_by (binary_shape (length a.0.now) d) a.0.now a.1.0) (some (refused_by c (refusal_of e) b)) → b ≤ length a.0.now
-    go not_binary q w x = let n = x.0 in let z : ◌≡◌ {A = ℕ} 0 1 = cc in absurd (omega arith)
+    go not_binary q w x = let n = x.0 in absurd cc
     go (binary checks) reader.not_binary w x = absurd x
     go (binary checks) (reader.tried d) w x = within _ checks w c _ b x.names

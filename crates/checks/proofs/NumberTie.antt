@@ -80,7 +80,7 @@ pub number-value : (width n : ℕ) (s : List ℕ) → number width s ≡ some n 
 number-value width n s e = go (not_empty s) (only_allowed s) (small_enough width s) (sym (number-by_checks width s) ∙ e)
   where
     go : (a b c : Bool) → cond a (of_digits b c (value_of s)) (none Empty) ≡ some n → value_of s ≡ n
-    go false b c f = let z : ◌≡◌ {A = ℕ} 0 1 = cc in absurd (omega arith)
-    go true false c f = let z : ◌≡◌ {A = ℕ} 0 1 = cc in absurd (omega arith)
-    go true true false f = let z : ◌≡◌ {A = ℕ} 0 1 = cc in absurd (omega arith)
+    go false b c f = absurd cc
+    go true false c f = absurd cc
+    go true true false f = absurd cc
     go true true true f = cc

@@ -1,9 +1,7 @@
 -- Each public promise allows one outcome only: two answers that meet it at the same input say the same, the check, the refusal and the byte, or what
 -- was read with every field's name, place and length. The promises are taken from the functions' own contracts.
-use Prim.Native.Nat.{ℕ}
 use mathlib.Core.Path.{◌≡◌, sym, ap, ◌∙◌}
 use mathlib.Core.List.{List}
-use native.Mathlib.Omega.{arith}
 use lib.ListN.{length, drop}
 use contract.Lifetimes.{Lfts}
 use denote.Triple.Clauses.{AtExit}
@@ -34,8 +32,8 @@ one_explanation checks answer parts (accepted a ps) (accepted b qs) e f =
     let g : a ≡ b = cc in
     let k : ps ≡ qs = e.places ∙ sym f.places in
     rw (g, k)
-one_explanation checks answer parts (accepted a ps) (refused_by c n b) e f = let h = e.answers ∙ sym f.answers in let z : ◌≡◌ {A = ℕ} 0 1 = cc in absurd (omega arith)
-one_explanation checks answer parts (refused_by c n b) (accepted a ps) e f = let h = e.answers ∙ sym f.answers in let z : ◌≡◌ {A = ℕ} 0 1 = cc in absurd (omega arith)
+one_explanation checks answer parts (accepted a ps) (refused_by c n b) e f = let h = e.answers ∙ sym f.answers in absurd cc
+one_explanation checks answer parts (refused_by c n b) (accepted a ps) e f = let h = e.answers ∙ sym f.answers in absurd cc
 one_explanation checks answer parts (refused_by c n b) (refused_by d m k) e f =
     let h = e.names ∙ sym f.names in
     let p : c ≡ d = cc in

@@ -65,6 +65,8 @@ module _ (s : List ℕ) (from : ℕ) where
     text-ends (Some i) f h = text-found i (sym f) h
     text-ends None f h = text_to_end (sym f) h
 
+pub ruleset texts = (whole-text, text-ends)
+
 -- the text before a marker, which stands m bytes after a place
 module _ (s u : List ℕ) (start m : ℕ) (h : start + m ≤ length s) (e : u ≡ part s 0 (start + m)) where
   pub front_text : drop start u ≡ take m (drop start s)
@@ -86,3 +88,5 @@ module _ (s u : List ℕ) (e : u ≡ take (length s - 1) s) where
   pub payload_cut : part u 5 (length s) ≡ payload s
   unfolding part
   payload_cut = take_all (length s) (drop 5 u) (omega (arith, length-drop 5 u, ap length e, length-take-le (length s - 1) s (omega arith))) ∙ payload_here
+
+pub ruleset payloads = (without_last, payload_cut)

@@ -1,5 +1,5 @@
 -- Laws of the check and the byte that go with a refusal, from the tests that the code makes.
-use Prim.Native.Nat.{ℕ, ◌+◌, ◌-◌, ◌≤◌, ◌<◌}
+use Prim.Native.Nat.{ℕ, ◌+◌, ◌≤◌, ◌<◌}
 use mathlib.Core.Path.{◌≡◌, refl, ◌∙◌}
 use mathlib.Core.List.{List, [], ◌∷◌}
 use mathlib.Core.Bool.{Bool, true, false, cond, false≢true}
@@ -12,7 +12,7 @@ use borrow.Author.Tests.{ne_eqb, eqb-true, le-leb, lt-leb, lt-ltb, le-ltb}
 use lib.Seq.{drop-drop}
 use Rattle.text.specs.Bytes.{starts_with}
 use Rattle.text.specs.Find.{crlf, first_of}
-use Rattle.text.specs.Utf8.{valid_up_to, inside_character}
+use Rattle.text.specs.Utf8.{valid_up_to}
 use Rattle.text.specs.Field.{Field, fields_from}
 use Rattle.at.specs.Refusal.{Refusal, number_of, refusal_of}
 use Rattle.at.specs.declared.AtPacketError.{AtPacketError}
@@ -21,13 +21,12 @@ use Rattle.at.specs.Line.{fields_after}
 use Rattle.at.specs.Event.{Row}
 use Rattle.at.specs.Binary.{marker, prefix}
 use Rattle.edm.specs.Packet.{Carries, unknown, Identifier, ◌carries◌, identifiers, carried}
-use Rattle.edm.specs.Payload.{byte}
 use Rattle.edm.specs.Frame.{payload}
 use Rattle.checks.specs.Check.{broken}
 use Rattle.checks.specs.Line.{inner}
 use Rattle.checks.specs.Binary.{field_text, after_marker}
 use Rattle.checks.specs.Frame.{carried_by}
-use Rattle.checks.specs.Steps.{start_no, text_reason, framing_reason, line_reason, response_reason, data_reason, body_reason, binary_reason, delimiter_reason, is_connect, is_response, size_reason, at_reason}
+use Rattle.checks.specs.Steps.{start_no, text_reason, framing_reason, line_reason, response_reason, data_reason, body_reason, binary_reason, is_connect, is_response, size_reason, at_reason}
 use Rattle.checks.specs.declared.CheckName.TheVariants as check
 
 -- the two refusals that the code tells by their names, and that no other has their numbers
@@ -61,61 +60,26 @@ of-type p end fs e (inr (inl h)) = rw h
 of-type p end fs e (inr (inr h)) = rw h
 
 -- a line
-module _ (p : ℕ) (line : List ℕ) (n : Refusal) where
-  pub too_short : length line < 2 → broken check.LineOfTwo n (p + length line) ≡ framing_reason p line n
-  unfolding framing_reason
-  too_short h = rw (lt-leb 2 (length line) h)
+module _ (p : ℕ) (line : List ℕ) (n : Refusal) (t : List ℕ) (a : number_of n ≡ 11 → ⊥) (b : number_of n ≡ 12 → ⊥) where
+  pub no_text : length line < 2 → framing_reason p line n ≡ line_reason p line t n
+  unfolding line_reason
+  no_text h = rw (ne_eqb (number_of n) 11 a, ne_eqb (number_of n) 12 b, lt-leb 2 (length line) h)
 
-  pub in_character : 2 ≤ length line → inside_character line 2 ≡ true → broken check.PlaceTwo n (p + 2) ≡ framing_reason p line n
-  unfolding framing_reason
-  in_character h i = rw (le-leb 2 (length line) h, i)
-
-  pub no-line_end : 2 ≤ length line → inside_character line 2 ≡ false → broken check.LineEnd n (p + length line) ≡ framing_reason p line n
-  unfolding framing_reason
-  no-line_end h i = rw (le-leb 2 (length line) h, i)
-
-  module _ (t : List ℕ) where
-    pub not-utf8 : number_of n ≡ 11 → broken check.Utf8 n (p + valid_up_to line) ≡ line_reason p line t n
-    unfolding line_reason
-    not-utf8 e = rw e
-
-    pub not-framed : number_of n ≡ 12 → framing_reason p line n ≡ line_reason p line t n
-    unfolding line_reason
-    not-framed e = rw e
-
-    module _ (a : number_of n ≡ 11 → ⊥) (b : number_of n ≡ 12 → ⊥) where
-      pub no_text : length line < 2 → framing_reason p line n ≡ line_reason p line t n
-      unfolding line_reason
-      no_text h = rw (ne_eqb (number_of n) 11 a, ne_eqb (number_of n) 12 b, lt-leb 2 (length line) h)
-
-      pub in_text_lem : 2 ≤ length line → text_reason (p + 2) (p + 2 + length t) (fields_after (p + 2) t) n ≡ line_reason p line t n
-      unfolding line_reason
-      in_text_lem h = rw (ne_eqb (number_of n) 11 a, ne_eqb (number_of n) 12 b, le-leb 2 (length line) h)
+  pub in_text_lem : 2 ≤ length line → text_reason (p + 2) (p + 2 + length t) (fields_after (p + 2) t) n ≡ line_reason p line t n
+  unfolding line_reason
+  in_text_lem h = rw (ne_eqb (number_of n) 11 a, ne_eqb (number_of n) 12 b, le-leb 2 (length line) h)
 
 -- a response
-module _ (p : ℕ) (s : List ℕ) (n : Refusal) where
-  pub response-not-utf8 : number_of n ≡ 11 → broken check.Utf8 n (p + valid_up_to s) ≡ response_reason p s n
+module _ (p : ℕ) (s : List ℕ) (n : Refusal) (a : number_of n ≡ 11 → ⊥) where
+  pub no_last_end : first_of crlf s < length s → broken check.LastLineEnd n (p + length s) ≡ response_reason p s n
   unfolding response_reason
-  response-not-utf8 e = rw e
+  no_last_end h = rw (ne_eqb (number_of n) 11 a, lt-ltb (first_of crlf s) (length s) h)
 
-  module _ (a : number_of n ≡ 11 → ⊥) where
-    pub no_last_end : first_of crlf s < length s → broken check.LastLineEnd n (p + length s) ≡ response_reason p s n
-    unfolding response_reason
-    no_last_end h = rw (ne_eqb (number_of n) 11 a, lt-ltb (first_of crlf s) (length s) h)
-
-    pub no-first-end : length s ≤ first_of crlf s → broken check.FirstLineEnd n (p + length s) ≡ response_reason p s n
-    unfolding response_reason
-    no-first-end h = rw (ne_eqb (number_of n) 11 a, le-ltb (first_of crlf s) (length s) h)
+  pub no-first-end : length s ≤ first_of crlf s → broken check.FirstLineEnd n (p + length s) ≡ response_reason p s n
+  unfolding response_reason
+  no-first-end h = rw (ne_eqb (number_of n) 11 a, le-ltb (first_of crlf s) (length s) h)
 
 -- a binary event
-pub no_length : (end : ℕ) (t : List ℕ) (n : Refusal) → length t < 2 → broken check.LengthBytes n end ≡ data_reason end t n
-unfolding data_reason
-no_length end t n h = rw (lt-leb 2 (length t) h)
-
-pub no-data : (end : ℕ) (t : List ℕ) (n : Refusal) → 2 ≤ length t → broken check.DataBytes n end ≡ data_reason end t n
-unfolding data_reason
-no-data end t n h = rw (le-leb 2 (length t) h)
-
 module _ (p : ℕ) (t : List ℕ) (n : Refusal) where
   pub unmarked : length t ≤ first_of marker t → broken check.Marker n (p + length t) ≡ body_reason p t n
   unfolding body_reason
@@ -174,22 +138,6 @@ not-response i h = carried_else is_response refl identifiers i 0x0045 (no_1, (no
 
 -- a frame
 module _ (s : List ℕ) (n : Refusal) where
-  pub frame-short : length s < 2 → broken check.FrameOfTwo n (length s) ≡ delimiter_reason s n
-  unfolding delimiter_reason
-  frame-short h = rw (lt-leb 2 (length s) h)
-
-  pub no_end : 2 ≤ length s → byte s 0 ≡ 0xAA → broken check.EndByte n (length s - 1) ≡ delimiter_reason s n
-  unfolding delimiter_reason
-  no_end h e = rw (le-leb 2 (length s) h, e)
-
-  pub no_start : 2 ≤ length s → (byte s 0 ≡ 0xAA → ⊥) → broken check.StartByte n 0 ≡ delimiter_reason s n
-  unfolding delimiter_reason
-  no_start h e = rw (le-leb 2 (length s) h, ne_eqb (byte s 0) 0xAA e)
-
-  pub under_six : length s < 6 → broken check.FrameOfSix n (length s) ≡ size_reason s n
-  unfolding size_reason
-  under_six h = rw (lt-leb 6 (length s) h)
-
   pub short_connect : 6 ≤ length s → is_connect (carried_by s) ≡ true → broken check.ConnectOfTwo n (5 + length (payload s)) ≡ size_reason s n
   unfolding size_reason
   short_connect h e = rw (le-leb 6 (length s) h, e)

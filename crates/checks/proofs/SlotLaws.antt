@@ -16,6 +16,7 @@ use Rattle.std.specs.Prelude.{◌≢◌, Option, Some, None, slice_get, OnSome}
 use Rattle.std.specs.Option.{unwrap_or}
 use Rattle.std.proofs.lemmas.Option.{slice_get_past, slice_get_within, none-some}
 use Rattle.text.proofs.BytesLaws.{part-rest}
+use Rattle.checks.proofs.StartLaws.{part_room}
 use Rattle.text.proofs.FindLaws.{first_le, from_at, from_nothing}
 use Rattle.at.specs.Event.{Row, Value, Event, event, event_to}
 use Rattle.at.specs.Parts.{values_of, parts_of, Apart}
@@ -31,41 +32,33 @@ use Rattle.checks.specs.declared.slot.Slot.{Slot}
 use Rattle.checks.specs.declared.slot.Span.{Span}
 use Rattle.checks.specs.declared.slot.Span.TheVariants.{Exactly, AllBut, UpTo}
 
--- a span, and that it takes no more than there is
+-- a span
 module _ (t : List ℕ) (n : ℕ) where
-  pub span_exactly : (u : List ℕ) → u ≡ part t 0 n → (length u ≡ span_of (Exactly n) t) × (length u ≤ length t)
+  pub span_exactly : (u : List ℕ) → u ≡ part t 0 n → length u ≡ span_of (Exactly n) t
   unfolding part span_of
-  span_exactly u e = rw e (refl, simp length-take (omega arith))
+  span_exactly u e = rw e
 
-  pub span_all_but : (r : ℕ) → r ≡ length t - n → (r ≡ span_of (AllBut n) t) × (r ≤ length t)
+  pub span_all_but : (r : ℕ) → r ≡ length t - n → r ≡ span_of (AllBut n) t
   unfolding span_of
-  span_all_but r e = (e, omega arith)
+  span_all_but r e = e
 
   module _ (u : List ℕ) (r b : ℕ) (l : r ≡ length t - n) (e : u ≡ part t 0 r) where
     whole : u ≡ take (length t - n) t
     unfolding part
     whole = e ∙ rw l
 
-    fits : length u ≤ length t
-    fits = rw whole (simp length-take (omega arith))
-
-    span_found : (i : ℕ) → first_from (b ∷ []) u 0 ≡ Some i → (i ≡ span_of (UpTo b n) t) × (i ≤ length t)
+    pub span_up : (o : Option ℕ) → o ≡ first_from (b ∷ []) u 0 → unwrap_or o (length u) ≡ span_of (UpTo b n) t
     unfolding span_of
-    span_found i f =
-        let g = from_at (b ∷ []) u 0 i f in
+    span_up (Some i) f =
+        let g = from_at (b ∷ []) u 0 i (sym f) in
         let h : i ≡ first_of (b ∷ []) u = omega (arith, g.0) in
-        (h ∙ ap (first_of (b ∷ [])) whole, omega (arith, g.1, fits))
-
-    span_not-found : first_from (b ∷ []) u 0 ≡ None → (length u ≡ span_of (UpTo b n) t) × (length u ≤ length t)
-    unfolding span_of
-    span_not-found f =
-        let g = from_nothing (b ∷ []) u 0 (omega arith) f in
+        h ∙ ap (first_of (b ∷ [])) whole
+    span_up None f =
+        let g = from_nothing (b ∷ []) u 0 (omega arith) (sym f) in
         let h : length u ≡ first_of (b ∷ []) u = omega (arith, g) in
-        (h ∙ ap (first_of (b ∷ [])) whole, fits)
+        h ∙ ap (first_of (b ∷ [])) whole
 
-    pub span_up : (o : Option ℕ) → o ≡ first_from (b ∷ []) u 0 → (unwrap_or o (length u) ≡ span_of (UpTo b n) t) × (unwrap_or o (length u) ≤ length t)
-    span_up (Some i) e = span_found i (sym e)
-    span_up None e = span_not-found (sym e)
+pub ruleset spans = (span_exactly, span_all_but, span_up)
 
 pub span_le : (k : Span) (t : List ℕ) → span_of k t ≤ length t
 unfolding span_of
@@ -167,20 +160,24 @@ binary_tail i k m h =
     let f = get-right (marked_slots 1 k m) (marked_tail m) (i - k - 1) in
     sym (ap (λ (n : ℕ). slice_get (name_slot m ∷ marked_slots 1 k m ++ marked_tail m) n) e ∙ (rw (marked_slots_length 1 k m) at f))
 
+pub ruleset counted = (field_slots_length, binary_slots_length)
+
+pub ruleset numbered = (event-field, event_past, binary-field, binary_last, binary_tail)
+
 -- those of a frame, after the three before its payload
 module _ (s : Shape) (i j : ℕ) (h : i ≡ suc (suc (suc j))) where
   payload-slot : slice_get (slots_of true s) i ≡ slice_get (shape_slots s ++ end_slot ∷ []) j
   unfolding slots_of
   payload-slot = rw h
 
-  pub framed-slot : j ≢ length (shape_slots s) → slice_get (shape_slots s) j ≡ slice_get (slots_of true s) i
-  framed-slot n = sym (payload-slot ∙ go (leb (length (shape_slots s)) j) refl)
+  pub framed-slot : (k : ℕ) → k ≡ length (shape_slots s) → j ≢ k → slice_get (shape_slots s) j ≡ slice_get (slots_of true s) i
+  framed-slot k m n = sym (payload-slot ∙ go (leb (length (shape_slots s)) j) refl)
     where
       go : (b : Bool) → leb (length (shape_slots s)) j ≡ b → slice_get (shape_slots s ++ end_slot ∷ []) j ≡ slice_get (shape_slots s) j
       go false e = get-left (shape_slots s) (end_slot ∷ []) j (omega (arith, leb-false (length (shape_slots s)) j e))
       go true e =
           let l : length (shape_slots s) ≤ j = leb-true (length (shape_slots s)) j e in
-          let m : length (shape_slots s ++ end_slot ∷ []) ≤ j = omega (arith, l, n, length-append (shape_slots s) (end_slot ∷ [])) in
+          let m : length (shape_slots s ++ end_slot ∷ []) ≤ j = omega (arith, l, m, n, length-append (shape_slots s) (end_slot ∷ [])) in
           slice_get_past (shape_slots s ++ end_slot ∷ []) j m ∙ sym (slice_get_past (shape_slots s) j l)
 
   pub framed-end : j ≡ length (shape_slots s) → Some end_slot ≡ slice_get (slots_of true s) i
@@ -198,6 +195,8 @@ framed-head s (suc (suc (suc i))) h = absurd (omega (arith, h))
 pub framed-count : (s : Shape) → length (slots_of true s) ≡ length (shape_slots s) + 4
 unfolding slots_of
 framed-count s = omega (arith, length-append (shape_slots s) (end_slot ∷ []))
+
+pub ruleset framed = (few, framed-count, framed-slot, framed-end, framed-head)
 
 -- a step of a walk
 module _ (s : List ℕ) (w : PartWalk) where
@@ -243,3 +242,8 @@ module _ (rows : List Row) (e : Event) (p : Parts) (n : ℕ) (a : Apart rows e p
 
   pub binary-shape : (k past : ℕ) → shape.Binary (n - 1) (k - past) ≡ binary_shape k (event_to e past)
   binary-shape k past = let q = values_of_lem in rw (q.1, l)
+
+-- a step of a walk is found by these
+pub ruleset walked = (part_room, span_le, walk_end, walk-part)
+
+pub ruleset shapes = (at-most-seven, event-shape, binary-shape)

@@ -1,11 +1,10 @@
 -- Laws of where a field starts: a walk that has passed some fields, and the fields after a colon.
-use Prim.Native.Nat.{ℕ, zero, suc, ◌+◌, ◌-◌, ◌≤◌, ◌<◌}
+use Prim.Native.Nat.{ℕ, suc, ◌+◌, ◌-◌, ◌≤◌, ◌<◌}
 use mathlib.Core.Path.{◌≡◌, refl, sym, ap, ◌∙◌}
 use mathlib.Core.List.{List, [], ◌∷◌}
 use mathlib.Core.Bool.{true, false, false≢true}
-use native.Mathlib.Nat.{le_of_suc-le-suc}
 use native.Mathlib.Omega.{arith}
-use lib.ListN.{length, take, drop, get_or, length-drop}
+use lib.ListN.{length, take, drop, length-take, length-drop}
 use lib.Seq.{drop-drop, drop-nil}
 use borrow.Author.Tests.{lt-ltb, le-ltb}
 use Rattle.text.specs.Bytes.{bytes, part}
@@ -18,6 +17,7 @@ use Rattle.text.specs.declared.field.Fields.{Fields}
 use Rattle.text.specs.declared.field.Next.{Next}
 use Rattle.text.proofs.FieldLaws.{step_left, left_in, left_out}
 use Rattle.text.proofs.BytesLaws.{part-rest}
+use Rattle.checks.proofs.Utf8Bound.{valid_le}
 use Rattle.text.proofs.FindLaws.{from_at}
 use Rattle.at.specs.Line.{fields_after}
 use Rattle.at.proofs.LineLaws.{not_found}
@@ -65,15 +65,10 @@ module _ (s : List ℕ) (start : ℕ) where
   colon-inside (Some i) e = let f = from_at (bytes ":") s start i (sym e) in omega (arith, f.1)
   colon-inside None e = omega arith
 
--- the front of a text, and the byte past its end
+-- the front of a text
 pub part_front : (s : List ℕ) (n : ℕ) → part s 0 n ≡ take n s
 unfolding part
 part_front s n = refl
-
-pub past_end : (s : List ℕ) (i : ℕ) → length s ≤ i → get_or s i 0 ≡ 0
-past_end [] i h = refl
-past_end (b ∷ s) zero h = absurd (omega arith)
-past_end (b ∷ s) (suc i) h = past_end s i (le_of_suc-le-suc h)
 
 -- the answer of a search from the start
 pub found_first : (t s : List ℕ) {i : ℕ} → first_from t s 0 ≡ Some i → (i ≡ first_of t s) × (first_of t s < length s)
@@ -89,3 +84,12 @@ found_some t s None e h = absurd (false≢true h)
 pub found-none : (t s : List ℕ) (o : Option ℕ) → o ≡ first_from t s 0 → is_some o ≡ false → length s ≤ first_of t s
 found-none t s (Some i) e h = absurd (false≢true (sym h))
 found-none t s None e h = found_nowhere t s (sym e)
+
+-- what is cut off a slice, for the goals that need no more
+pub part_room : (s : List ℕ) (start n : ℕ) → length (part s start n) ≤ length s - start
+unfolding part
+part_room s start n = simp (length-take, length-drop) (omega arith)
+
+pub ruleset cuts = (part-rest, part_room, valid_le)
+
+pub ruleset colons = (past_colon, colon-inside)

@@ -68,15 +68,13 @@ module _ (κs : Lfts 1) (a : Dens κs explain_frame.Kinds.ps) (t : AtExit (ended
   names-later e b s x =
       let q = x.names ∙ ap (λ (l : List ℕ). first_broken (frame_checks l)) s ∙ neither_delimiter in
       let z : c.EndByte ≡ c.StartByte = cc in
-      let y : ◌≡◌ {A = ℕ} 0 1 = cc in
-      omega arith
+      cc
 
   pub names-first : (e : EdmPacketError) (b : ℕ) → a.0.now ≡ hex "AA 55" → explain_frame.Reads.Post κs a (Err (record { error = e; check = c.FrameOfTwo; byte = b })) t → ⊥
   names-first e b s x =
       let q = x.names ∙ ap (λ (l : List ℕ). first_broken (frame_checks l)) s ∙ two_bytes_lem in
       let z : c.FrameOfTwo ≡ c.FrameOfSix = cc in
-      let y : ◌≡◌ {A = ℕ} 0 1 = cc in
-      omega arith
+      cc
 
   -- for every frame: whatever check and byte are right, the next byte is not
   pub one-byte_off : (e d : EdmPacketError) (k l : CheckName) (b : ℕ) → explain_frame.Reads.Post κs a (Err (record { error = e; check = k; byte = b })) t → explain_frame.Reads.Post κs a (Err (record { error = d; check = l; byte = suc b })) t → ⊥
@@ -91,8 +89,7 @@ pub names-later-field : (κs : Lfts 1) (a : Dens κs explain_w26.Kinds.ps) (t : 
 names-later-field κs a t e b s p x =
     let q = rw (s, p) at x.names in
     let r = q ∙ two_fields in
-    let y : ◌≡◌ {A = ℕ} 0 1 = cc in
-    omega arith
+    cc
 
 -- the text that W36 keeps ends at 11, the line at 17
 pub past_the_text : (κs : Lfts 1) (a : Dens κs explain_w36.Kinds.ps) (t : AtExit (ended_of 1 explain_w36.Kinds.ps explain_w36.Kinds.r) κs) (e : AtPacketError)
@@ -100,16 +97,14 @@ pub past_the_text : (κs : Lfts 1) (a : Dens κs explain_w36.Kinds.ps) (t : AtEx
 past_the_text κs a t e s p x =
     let q = rw (s, p) at x.names in
     let r = q ∙ kept-text in
-    let y : ◌≡◌ {A = ℕ} 17 11 = cc in
-    omega arith
+    cc
 
 -- a walk that ends where a field is before it, and one that stands still and gives the same field for ever
 pub ends_early : (κs : Lfts 1) (a : Dens κs next.Kinds.ps) (t : AtExit (ended_of 1 next.Kinds.ps next.Kinds.r) κs) (p : Part) (ps : List Part)
     → left a.1.0.now a.0 ≡ p ∷ ps → next.Reads.Post κs a None t → ⊥
 ends_early κs a t p ps e x =
     let q = x ∙ e in
-    let y : ◌≡◌ {A = ℕ} 0 1 = cc in
-    omega arith
+    cc
 
 pub stands_still : (κs : Lfts 1) (a : Dens κs next.Kinds.ps) (t : AtExit (ended_of 1 next.Kinds.ps next.Kinds.r) κs) (n : PartName) (start len : ℕ)
     → next.Reads.Post κs a (Some (record { name = n; start = start; len = len; rest = a.0 })) t → ⊥
@@ -126,8 +121,7 @@ pub ends_exchanged : (κs : Lfts 1) (a : Dens κs next.Kinds.ps) (t : AtExit (en
     → next.Reads.Post κs a (Some (record { name = LocalAddress; start = 8; len = 4; rest = rest })) t → ⊥
 ends_exchanged κs a t rest s w x =
     let q = (rw (s, w) at x) ∙ remote_next in
-    let y : ◌≡◌ {A = ℕ} 0 1 = cc in
-    omega arith
+    cc
 
 -- a number that is that of another refusal
 pub not_twelve : (κs : Lfts 0) (a : Dens κs at_number.Kinds.ps) (t : AtExit (ended_of 0 at_number.Kinds.ps at_number.Kinds.r) κs)

@@ -20,6 +20,7 @@ use text::find::first_byte;
 use text::utf8::valid_up_to;
 
 // The shape of an event that ends at `past` of an input of `n` bytes. Its data is the last of its values.
+#[tactic(auto, using(crate::proofs::SlotLaws::shapes))]
 fn shape_of(event: ATEvent, n: usize, past: usize) -> Shape
     ensures { result ≡ binary_shape n (event_to (event_of event) past) }
 {
@@ -30,39 +31,31 @@ fn shape_of(event: ATEvent, n: usize, past: usize) -> Shape
 }
 
 // The bytes after the marker, of an input that ends at `end`.
+#[tactic(auto, unfolding(crate::specs::Steps::data_reason))]
 fn data_reason(t: &[u8], end: usize) -> Reason
     ensures { (n : Refusal) → told result n ≡ data_reason end t.now n }
 {
     if t.len() < 2 {
-        Reason {
-            check: CheckName::LengthBytes,
-            byte: end,
-        }
+        CheckName::LengthBytes.shown_at(end)
     } else {
-        Reason {
-            check: CheckName::DataBytes,
-            byte: end,
-        }
+        CheckName::DataBytes.shown_at(end)
     }
 }
 
 // What follows the colon, from `start` on.
+#[tactic(auto, using(crate::proofs::StartLaws::cuts))]
 fn body_reason(s: &[u8], start: usize, e: AtPacketError) -> Reason
     ensures { told result (refusal_of e) ≡ body_reason start (drop start s.now) (refusal_of e) }
 {
     let t = part(s, start, s.len());
     let end = start + t.len();
     let Some(m) = first_byte(t, 0, 1) else {
-        return Reason {
-            check: CheckName::Marker,
-            byte: end,
-        };
+        return CheckName::Marker.shown_at(end);
     };
     match e {
-        AtPacketError::Utf8DecodeFailed => Reason {
-            check: CheckName::Utf8,
-            byte: start + valid_up_to(part(t, 0, m)),
-        },
+        AtPacketError::Utf8DecodeFailed => CheckName::Utf8.shown_at(
+            start + valid_up_to(part(t, 0, m)),
+        ),
         AtPacketError::FramingDecodeFailed => data_reason(part(t, m + 1, t.len()), end),
         _ => text_reason(part(s, 0, start + m), start, start, e),
     }
@@ -77,10 +70,7 @@ fn reason_of(s: &[u8], from: usize, e: AtPacketError) -> Reason
     } else if starts_at(s, from, b"\r\n+UESODBF:") {
         body_reason(s, from + 11, e)
     } else {
-        Reason {
-            check: CheckName::Marker,
-            byte: from,
-        }
+        CheckName::Marker.shown_at(from)
     }
 }
 

@@ -41,6 +41,7 @@ fn nth_start(s: &[u8], start: usize, field: u8) -> usize
 }
 
 // Where the fields of a text begin, which goes from `start` to the end of `s`: after its first colon, or past the end.
+#[tactic(auto, using(crate::proofs::StartLaws::colons))]
 pub(crate) fn fields_after(s: &[u8], start: usize) -> usize
     ensures { left s.now (record { at = result }) ≡ fields_after start (drop start s.now) }
 {
@@ -48,28 +49,23 @@ pub(crate) fn fields_after(s: &[u8], start: usize) -> usize
 }
 
 // The reason for which a text is refused, which goes from `start` to the end of `s` and has its fields from `at` on.
+#[tactic(auto, using(crate::proofs::StartLaws::cuts))]
 pub(crate) fn text_reason(s: &[u8], start: usize, at: usize, e: AtPacketError) -> Reason
     ensures { told result (refusal_of e) ≡ text_reason start (start + length (drop start s.now)) (left s.now (record { at = at })) (refusal_of e) }
 {
     match e {
-        AtPacketError::TypeDecodeParameterMissing { field } => Reason {
-            check: CheckName::FieldThere(field),
-            byte: start + part(s, start, s.len()).len(),
-        },
-        AtPacketError::TypeDecodeParameterDataTypeInvalid { field, why } => Reason {
-            check: form_check(field, why),
-            byte: nth_start(s, at, field),
-        },
-        AtPacketError::EventUnknown => Reason {
-            check: CheckName::EventName,
-            byte: start,
-        },
+        AtPacketError::TypeDecodeParameterMissing { field } => CheckName::FieldThere(
+            field,
+        ).shown_at(start + part(s, start, s.len()).len()),
+        AtPacketError::TypeDecodeParameterDataTypeInvalid { field, why } => form_check(
+            field, why,
+        ).shown_at(nth_start(s, at, field)),
+        AtPacketError::EventUnknown => CheckName::EventName.shown_at(start),
         // The type of a peer stands in the second field. The last two are not said of a text.
         AtPacketError::TypeDecodeUnsupported
         | AtPacketError::Utf8DecodeFailed
-        | AtPacketError::FramingDecodeFailed => Reason {
-            check: CheckName::FieldType(2),
-            byte: nth_start(s, at, 2),
-        },
+        | AtPacketError::FramingDecodeFailed => CheckName::FieldType(2).shown_at(nth_start(
+            s, at, 2,
+        )),
     }
 }

@@ -34,6 +34,7 @@ fn identifier(s: &[u8]) -> u16
     u16::from_be_bytes([byte(s, 3), byte(s, 4)])
 }
 
+#[tactic(auto, using(crate::proofs::PlaceLaws::payloads))]
 fn payload(s: &[u8]) -> &[u8]
     ensures { result.now ≡ payloadIn s.now }
 {
@@ -41,49 +42,33 @@ fn payload(s: &[u8]) -> &[u8]
 }
 
 // No AA first, no 55 last, or not even two bytes.
+#[tactic(auto, unfolding(crate::specs::Steps::delimiter_reason))]
 fn delimiter_reason(s: &[u8]) -> Reason
     ensures { (n : Refusal) → told result n ≡ delimiter_reason s.now n }
 {
     let n = s.len();
     if n < 2 {
-        Reason {
-            check: CheckName::FrameOfTwo,
-            byte: n,
-        }
+        CheckName::FrameOfTwo.shown_at(n)
     } else if s[0] == 0xAA {
-        Reason {
-            check: CheckName::EndByte,
-            byte: n - 1,
-        }
+        CheckName::EndByte.shown_at(n - 1)
     } else {
-        Reason {
-            check: CheckName::StartByte,
-            byte: 0,
-        }
+        CheckName::StartByte.shown_at(0)
     }
 }
 
 // A frame, or the payload of a connect or a data event, that is too short.
+#[tactic(auto, unfolding(crate::specs::Steps::size_reason))]
 fn size_reason(s: &[u8]) -> Reason
     ensures { (n : Refusal) → told result n ≡ size_reason s.now n }
 {
     let n = s.len();
     if n < 6 {
-        return Reason {
-            check: CheckName::FrameOfSix,
-            byte: n,
-        };
+        return CheckName::FrameOfSix.shown_at(n);
     }
     let byte = 5 + payload(s).len();
     match identifier(s) {
-        0x0011 => Reason {
-            check: CheckName::ConnectOfTwo,
-            byte,
-        },
-        _ => Reason {
-            check: CheckName::DataChannel,
-            byte,
-        },
+        0x0011 => CheckName::ConnectOfTwo.shown_at(byte),
+        _ => CheckName::DataChannel.shown_at(byte),
     }
 }
 
@@ -98,48 +83,26 @@ fn at_reason(s: &[u8], e: AtPacketError) -> Reason
     }
 }
 
-fn at_payload_end(s: &[u8], check: CheckName) -> Reason
-    ensures { result ≡ record { check = check; byte = 5 + length (payloadIn s.now) } }
-{
-    Reason {
-        check,
-        byte: 5 + payload(s).len(),
-    }
-}
-
+#[tactic(auto, using(crate::proofs::StartLaws::cuts), unfolding(crate::specs::Steps::frame_reason))]
 fn reason_of(s: &[u8], e: EdmPacketError) -> Reason
     ensures { told result (refusal_of e) ≡ frame_reason s.now (refusal_of e) }
 {
+    let t = payload(s);
+    let end = 5 + t.len();
     match e {
         EdmPacketError::PacketDecodeFramingInvalid => delimiter_reason(s),
         EdmPacketError::PacketDecodeTargetMemorySizeInvalid => size_reason(s),
-        EdmPacketError::PacketTypeDecodeLengthMismatch => Reason {
-            check: CheckName::FrameLength,
-            byte: 1,
-        },
-        EdmPacketError::PayloadTypeUnknown => Reason {
-            check: CheckName::Identifier,
-            byte: 3,
-        },
-        EdmPacketError::ConnectEventUnsupported => Reason {
-            check: CheckName::ConnectType,
-            byte: 6,
-        },
-        EdmPacketError::ConnectEventDecodeError => at_payload_end(s, CheckName::ConnectSize),
-        EdmPacketError::DisconnectEventDecodeError => at_payload_end(s, CheckName::DisconnectSize),
-        EdmPacketError::AtRequestEventDecodeError => Reason {
-            check: CheckName::RequestUtf8,
-            byte: 5 + valid_up_to(payload(s)),
-        },
+        EdmPacketError::PacketTypeDecodeLengthMismatch => CheckName::FrameLength.shown_at(1),
+        EdmPacketError::PayloadTypeUnknown => CheckName::Identifier.shown_at(3),
+        EdmPacketError::ConnectEventUnsupported => CheckName::ConnectType.shown_at(6),
+        EdmPacketError::ConnectEventDecodeError => CheckName::ConnectSize.shown_at(end),
+        EdmPacketError::DisconnectEventDecodeError => CheckName::DisconnectSize.shown_at(end),
+        EdmPacketError::AtRequestEventDecodeError => {
+            CheckName::RequestUtf8.shown_at(5 + valid_up_to(t))
+        }
         // No reader answers these two.
-        EdmPacketError::PacketEncodeTypeUnknown => Reason {
-            check: CheckName::Identifier,
-            byte: 3,
-        },
-        EdmPacketError::PacketEncodePayloadSizeInvalid => Reason {
-            check: CheckName::Identifier,
-            byte: 3,
-        },
+        EdmPacketError::PacketEncodeTypeUnknown | EdmPacketError::PacketEncodePayloadSizeInvalid =>
+            CheckName::Identifier.shown_at(3),
         EdmPacketError::AtPacketError(a) => at_reason(s, a),
     }
 }
@@ -150,13 +113,11 @@ fn shape_of(packet: EdmPacket) -> Shape
     match packet {
         EdmPacket::ConnectEvent { .. } => Shape::Connect,
         EdmPacket::DisconnectEvent { .. } => Shape::Disconnect,
-        EdmPacket::DataEvent { .. } => Shape::Data,
-        EdmPacket::DataCommand { .. } => Shape::Data,
+        EdmPacket::DataEvent { .. } | EdmPacket::DataCommand { .. } => Shape::Data,
         EdmPacket::ATRequest(_) => Shape::Request,
         EdmPacket::ATResponse(r) => response::shape_of(r, 5),
         EdmPacket::ATEvent(e) => line::shape_of(e, 3),
-        EdmPacket::ResendConnectEvents => Shape::Bare,
-        EdmPacket::StartEvent => Shape::Bare,
+        EdmPacket::ResendConnectEvents | EdmPacket::StartEvent => Shape::Bare,
     }
 }
 

@@ -72,6 +72,15 @@ pub(crate) struct Reason {
     pub byte: usize,
 }
 
+impl CheckName {
+    // This check, which does not hold, and the byte that shows it.
+    fn shown_at(self, byte: usize) -> Reason
+        ensures { result ≡ record { check = self; byte = byte } }
+    {
+        Reason { check: self, byte }
+    }
+}
+
 impl Reason {
     // The refusal that has this reason.
     fn refuses<E>(self, error: E) -> Refused<E>

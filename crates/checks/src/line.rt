@@ -43,38 +43,28 @@ pub(crate) trait Line: Copy {
 }
 
 // The line that starts at `from` and is refused with 12.
+#[tactic(auto, using(crate::proofs::StartLaws::cuts), unfolding(crate::specs::Steps::framing_reason))]
 fn framing_reason(s: &[u8], from: usize) -> Reason
     ensures { (n : Refusal) → told result n ≡ framing_reason from (drop from s.now) n }
 {
     let line = part(s, from, s.len());
     if line.len() < 2 {
-        Reason {
-            check: CheckName::LineOfTwo,
-            byte: from + line.len(),
-        }
+        CheckName::LineOfTwo.shown_at(from + line.len())
     } else if inside_character(line, 2) {
-        Reason {
-            check: CheckName::PlaceTwo,
-            byte: from + 2,
-        }
+        CheckName::PlaceTwo.shown_at(from + 2)
     } else {
-        Reason {
-            check: CheckName::LineEnd,
-            byte: from + line.len(),
-        }
+        CheckName::LineEnd.shown_at(from + line.len())
     }
 }
 
 // The line that starts at `from`.
+#[tactic(auto, using(crate::proofs::StartLaws::cuts), unfolding(crate::specs::Steps::line_reason))]
 pub(crate) fn line_reason<E: Line>(s: &[u8], from: usize, e: AtPacketError) -> Reason
     ensures { told result (refusal_of e) ≡ line_reason from (drop from s.now) (E.radio.kept (inner (drop from s.now))) (refusal_of e) }
 {
     let line = part(s, from, s.len());
     match e {
-        AtPacketError::Utf8DecodeFailed => Reason {
-            check: CheckName::Utf8,
-            byte: from + valid_up_to(line),
-        },
+        AtPacketError::Utf8DecodeFailed => CheckName::Utf8.shown_at(from + valid_up_to(line)),
         AtPacketError::FramingDecodeFailed => framing_reason(s, from),
         _ if line.len() < 2 => framing_reason(s, from),
         _ => {
@@ -85,6 +75,7 @@ pub(crate) fn line_reason<E: Line>(s: &[u8], from: usize, e: AtPacketError) -> R
 }
 
 // The shape of a line whose text is followed by `but` bytes.
+#[tactic(auto, using(crate::proofs::SlotLaws::shapes))]
 pub(crate) fn shape_of<E: Line>(event: E, but: usize) -> Shape
     ensures { result ≡ event_shape but (E.event_of event) }
 {

@@ -72,6 +72,7 @@ impl PartWalk {
     }
 
     // The next field of the input `s`.
+    #[tactic(auto, using(crate::proofs::SlotLaws::walked))]
     pub fn next(self, s: &[u8]) -> Option<PartStep>
         ensures { shown s.now result ≡ left s.now self }
     {

@@ -32,23 +32,15 @@ pub(crate) fn shape_of(r: ATResponse, from: usize) -> Shape
     }
 }
 
+#[tactic(auto, using(crate::proofs::StartLaws::cuts), unfolding(crate::specs::Steps::response_reason))]
 pub(crate) fn response_reason(s: &[u8], from: usize, e: AtPacketError) -> Reason
     ensures { told result (refusal_of e) ≡ response_reason from (drop from s.now) (refusal_of e) }
 {
     let t = part(s, from, s.len());
     match e {
-        AtPacketError::Utf8DecodeFailed => Reason {
-            check: CheckName::Utf8,
-            byte: from + valid_up_to(t),
-        },
-        _ if first_crlf(t, 0).is_some() => Reason {
-            check: CheckName::LastLineEnd,
-            byte: from + t.len(),
-        },
-        _ => Reason {
-            check: CheckName::FirstLineEnd,
-            byte: from + t.len(),
-        },
+        AtPacketError::Utf8DecodeFailed => CheckName::Utf8.shown_at(from + valid_up_to(t)),
+        _ if first_crlf(t, 0).is_some() => CheckName::LastLineEnd.shown_at(from + t.len()),
+        _ => CheckName::FirstLineEnd.shown_at(from + t.len()),
     }
 }
 

@@ -1,5 +1,5 @@
 // The slots into which an accepted input is cut.
-ghost use Rattle.std.specs.Prelude.{◌≡◌, ◌≤◌, ◌<◌, length, map, slice_get, OnSome};
+ghost use Rattle.std.specs.Prelude.{◌≡◌, ◌<◌, length, map, slice_get, OnSome};
 ghost use Rattle.checks.specs.Slot.{span_of, slot as slotFor, fixed as fixedFor, marked_tail, name_slot, shape_slots, slots_of};
 
 use crate::part::{PartName, Shape};
@@ -16,9 +16,9 @@ pub(crate) enum Span {
 
 impl Span {
     // How many of these bytes it takes.
+    #[tactic(auto, using(crate::proofs::SlotLaws::spans))]
     pub(crate) fn of(self, t: &[u8]) -> usize
-        ensures value { result ≡ span_of self t.now }
-        ensures within { result ≤ length t.now }
+        ensures { result ≡ span_of self t.now }
     {
         match self {
             Self::Exactly(n) => part(t, 0, n).len(),
@@ -109,6 +109,7 @@ fn fixed_slot(fields: &[(PartName, usize)], i: usize) -> Option<Slot>
     Some(fixed(name, n))
 }
 
+#[tactic(auto, using(crate::proofs::SlotLaws::numbered))]
 fn event_slot(fields: u8, but: usize, i: usize) -> Option<Slot>
     ensures { result ≡ slice_get (shape_slots (Shape.Event fields but)) i }
 {
@@ -133,6 +134,7 @@ fn marked_slot(but: usize, i: usize) -> Option<Slot>
     }
 }
 
+#[tactic(auto, using(crate::proofs::SlotLaws::numbered))]
 fn binary_slot(fields: u8, but: usize, i: usize) -> Option<Slot>
     ensures { result ≡ slice_get (shape_slots (Shape.Binary fields but)) i }
 {
@@ -172,6 +174,7 @@ fn shape_slot(shape: Shape, i: usize) -> Option<Slot>
     }
 }
 
+#[tactic(auto, using(crate::proofs::SlotLaws::counted))]
 fn shape_count(shape: Shape) -> usize
     ensures count { result ≡ length (shape_slots shape) }
     ensures few { result < 512 }
@@ -189,6 +192,7 @@ fn shape_count(shape: Shape) -> usize
 }
 
 // The slot with a number, counted from 0. A frame has the last byte after those of its payload.
+#[tactic(auto, using(crate::proofs::SlotLaws::framed), unfolding(crate::specs::Slot::slots_of))]
 pub(crate) fn slot_at(framed: bool, shape: Shape, i: usize) -> Option<Slot>
     ensures slot { result ≡ slice_get (slots_of framed shape) i }
     ensures few { OnSome result (i < 1024) }

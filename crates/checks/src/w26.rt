@@ -30,6 +30,7 @@ impl Line for ATEvent {
         Parts::from(self)
     }
 
+    #[tactic(auto, using(crate::proofs::PlaceLaws::texts))]
     fn text_end(s: &[u8], _from: usize) -> usize {
         s.len().saturating_sub(2)
     }

@@ -15,20 +15,16 @@ use Rattle.checks.proofs.ReasonLaws.{eleven, twelve, not_eleven, not_twelve, unm
 use Rattle.checks.proofs.binary.body_reason.Goals as goal
 use Rattle.checks.proofs.binary.body_reason.Goals.{In-Some}
 
--- `binary::body_reason` meets its contract.
 -- the marker: where it stands, and that it is one of the bytes
 marked : (c : In-Some) → let t = c.part-t.result.now in (c.in-Some.m ≡ first_of marker t) × (first_of marker t < length t)
 marked c = found_first _ _ (sym c.first_byte.ensures ∙ c.in-Some.is)
 
-pub overflow_add-end : goal.overflow_add-end
-overflow_add-end c = omega (arith, rest-length _ _ _ c.part-t.ensures)
-
 pub returns-in_default : goal.returns-in_default
 returns-in_default c = let e = c.part-t.ensures ∙ part-rest _ _ in
-    rw (← e) (unmarked _ _ _ (found_nowhere _ _ (sym c.first_byte.ensures ∙ c.in_default.is)))
+    rw (c.shown_at.ensures, ← e) (unmarked _ _ _ (found_nowhere _ _ (sym c.first_byte.ensures ∙ c.in_default.is)))
 
-pub overflow_add-result : goal.overflow_add-result
-overflow_add-result c = let m = marked (goal.at.overflow_add-result c).In-Some in
+pub overflow_add-start : goal.overflow_add-start
+overflow_add-start c = let m = marked (goal.at.overflow_add-start c).In-Some in
     let k : length c.part.result.now ≡ c.in-Some.m = ap length (c.part.ensures ∙ part_front _ _) ∙ length-take-le _ _ (omega (arith, m.0, m.1)) in
     omega (arith, rest-length _ _ _ c.part-t.ensures, c.valid_up_to.ensures, valid_le c.part.result.now, k, m.0, m.1)
 
@@ -36,7 +32,7 @@ pub returns-in-Utf8DecodeFailed : goal.returns-in-Utf8DecodeFailed
 returns-in-Utf8DecodeFailed c = let e = c.part-t.ensures ∙ part-rest _ _ in
     let m = marked (goal.at.returns-in-Utf8DecodeFailed c).In-Some in
     let v = c.valid_up_to.ensures ∙ ap valid_up_to (c.part.ensures ∙ part_front _ _ ∙ ap (λ (k : ℕ). take k c.part-t.result.now) m.0) in
-    rw (← e, v) (body-not-utf8 _ _ _ m.1 (eleven _ c.in-Utf8DecodeFailed.is))
+    rw (c.shown_at-in-Utf8DecodeFailed.ensures, ← e, v) (body-not-utf8 _ _ _ m.1 (eleven _ c.in-Utf8DecodeFailed.is))
 
 pub overflow_add-m : goal.overflow_add-m
 overflow_add-m c = let m = marked (goal.at.overflow_add-m c).In-Some in omega (arith, rest-length _ _ _ c.part-t.ensures, m.0, m.1)
@@ -47,8 +43,8 @@ returns-in-FramingDecodeFailed c = let e = c.part-t.ensures ∙ part-rest _ _ in
     let d = c.part-in-FramingDecodeFailed.ensures ∙ part-rest _ _ ∙ ap (λ (k : ℕ). drop (k + 1) c.part-t.result.now) m.0 in
     c.data_reason.ensures _ ∙ rw (← e, d) (in_data _ _ _ m.1 (twelve _ c.in-FramingDecodeFailed.is))
 
-pub overflow_add-start : goal.overflow_add-start
-overflow_add-start c = let m = marked (goal.at.overflow_add-start c).In-Some in omega (arith, rest-length _ _ _ c.part-t.ensures, m.0, m.1)
+pub overflow_add-start-in_default-e : goal.overflow_add-start-in_default-e
+overflow_add-start-in_default-e c = let m = marked (goal.at.overflow_add-start-in_default-e c).In-Some in omega (arith, rest-length _ _ _ c.part-t.ensures, m.0, m.1)
 
 pub returns-in_default-e : goal.returns-in_default-e
 returns-in_default-e c = let e = c.part-t.ensures ∙ part-rest _ _ in

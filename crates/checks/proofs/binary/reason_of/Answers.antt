@@ -25,5 +25,5 @@ returns-then-starts_at-2 c = c.body_reason-then-starts_at-2.ensures
 
 pub returns-else-starts_at-2 : goal.returns-else-starts_at-2
 unfolding binary_table binary_reason
-returns-else-starts_at-2 c = row-passed UESODBF [] c.args.s.now c.args.from _ (sym c.starts_at-else-starts_at.ensures ∙ c.if-starts_at-2.false)
-    ∙ row-passed UESODB (UESODBF ∷ []) c.args.s.now c.args.from _ (sym c.starts_at.ensures ∙ c.if-starts_at.false)
+returns-else-starts_at-2 c = rw c.shown_at.ensures (row-passed UESODBF [] c.args.s.now c.args.from _ (sym c.starts_at-else-starts_at.ensures ∙ c.if-starts_at-2.false)
+    ∙ row-passed UESODB (UESODBF ∷ []) c.args.s.now c.args.from _ (sym c.starts_at.ensures ∙ c.if-starts_at.false))
