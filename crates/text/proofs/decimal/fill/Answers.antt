@@ -1,30 +1,30 @@
 use native.Mathlib.Omega.{arith}
-use mathlib.Core.Path.{refl, ◌∙◌}
+use mathlib.Core.Path.{◌≡◌, sym, ◌∙◌}
 use Prim.Native.Nat.{◌-◌}
-use lib.ListN.{length, length-set}
-use Rattle.text.specs.Decimal.{decimal}
-use Rattle.text.proofs.DecimalLaws.{long_last, long_more, filled-whole, filled_more, filled_last}
+use Rattle.text.proofs.DecimalLaws.{some_digit, one_digit, more_digits, long_more, filled-whole, filled_more, filled_last}
 use Rattle.text.proofs.decimal.fill.Goals as goal
 
-pub loop-m-init : goal.loop-m-init
-loop-m-init c = (refl, c.requires.1, omega arith, filled-whole c.args.buf.now (c.args.end - length (decimal c.args.n)) c.args.end c.args.n (omega arith))
+pub loop-i-init : goal.loop-i-init
+loop-i-init c = (sym c.requires.0, filled-whole c.args.buf.now c.args.at c.args.end c.args.n (sym c.requires.0))
 
-pub overflow_sub-k : goal.overflow_sub-k
-overflow_sub-k c = omega (arith, long_more c.loop-m.m c.loop-m-test.true)
+pub loop-i-preserved : goal.loop-i-preserved
+loop-i-preserved c =
+    let l = c.loop-i in
+    let g = more_digits l.m (omega arith) in
+    (omega (arith, long_more l.m g), filled_more l.buf c.args.at l.i l.m (omega arith) (omega arith) g ∙ l.invariant.1)
 
-pub bounds-buf-k : goal.bounds-buf-k
-bounds-buf-k c = omega (arith, long_more c.loop-m.m c.loop-m-test.true)
+pub overflow_cast-buf-2 : goal.overflow_cast-buf-2
+overflow_cast-buf-2 c = omega (arith, one_digit c.loop-i.m (omega arith))
 
-pub loop-m-preserved : goal.loop-m-preserved
-loop-m-preserved c = let e = long_more c.loop-m.m c.loop-m-test.true in
-    (simp length-set c.loop-m.invariant.0, omega arith, omega arith, filled_more c.loop-m.buf (c.args.end - length (decimal c.args.n)) c.loop-m.k c.loop-m.m (omega arith) (omega arith) c.loop-m-test.true ∙ c.loop-m.invariant.3)
+pub overflow_add-buf-2 : goal.overflow_add-buf-2
+overflow_add-buf-2 c = omega (arith, one_digit c.loop-i.m (omega arith))
 
-pub overflow_sub-k-2 : goal.overflow_sub-k-2
-overflow_sub-k-2 c = omega (arith, long_last c.loop-m.m c.loop-m-test.false)
-
-pub bounds-buf-k-2 : goal.bounds-buf-k-2
-bounds-buf-k-2 c = omega (arith, long_last c.loop-m.m c.loop-m-test.false)
+pub bounds-buf-at : goal.bounds-buf-at
+bounds-buf-at c = omega (arith, some_digit c.loop-i.m)
 
 pub returns : goal.returns
-returns c = let e = long_last c.loop-m.m c.loop-m-test.false in
-    filled_last c.loop-m.buf (c.args.end - length (decimal c.args.n)) c.loop-m.k c.loop-m.m (omega arith) (omega arith) c.loop-m-test.false (omega arith) ∙ c.loop-m.invariant.3
+returns c =
+    let l = c.loop-i in
+    let d = some_digit l.m in
+    let e : l.i - 1 ≡ c.args.at = omega arith in
+    (rw e at (filled_last l.buf c.args.at l.i l.m (omega arith) (omega arith) (one_digit l.m (omega arith)) e)) ∙ l.invariant.1

@@ -1,27 +1,19 @@
-use Prim.Native.Nat.{◌+◌}
+use Prim.Native.Nat.{◌+◌, ◌-◌, ◌<◌}
 use mathlib.Core.List.{[], ◌∷◌}
-use Rattle.text.proofs.FindLaws.{from-no, byte_other}
-use native.Mathlib.Omega.{arith}
 use mathlib.Core.Path.{◌≡◌, ◌∙◌}
+use native.Mathlib.Omega.{arith}
+use lib.ListN.{get_or, drop, length-take}
+use borrow.Author.Tests.{not-true, eqb-false}
+use Rattle.text.proofs.Bools.{and_left, and_right}
+use Rattle.text.proofs.BytesLaws.{part_at}
+use Rattle.text.proofs.FindLaws.{from-no, byte_other}
 use Rattle.text.proofs.find.block_lacks.Goals as goal
 
-pub loop-j-init : goal.loop-j-init
-loop-j-init c = (omega arith, λ e. let z : c.args.from + 0 ≡ c.args.from = omega arith in rw z)
-
-pub overflow_add-from : goal.overflow_add-from
-overflow_add-from c = omega arith
-
-pub bounds-s-from : goal.bounds-s-from
-bounds-s-from c = omega arith
-
-pub overflow_add-j : goal.overflow_add-j
-overflow_add-j c = omega arith
-
-pub loop-j-smaller : goal.loop-j-smaller
-loop-j-smaller c = omega arith
-
-pub loop-j-preserved : goal.loop-j-preserved
-loop-j-preserved c = (omega arith, λ e. let h = c.still-none.ensures e in let z : c.args.from + (c.loop-j.j + 1) ≡ c.args.from + c.loop-j.j + 1 = omega arith in c.loop-j.invariant.1 h.0 ∙ from-no (c.args.b ∷ []) c.args.s.now (c.args.from + c.loop-j.j) (omega arith) (byte_other c.args.s.now (c.args.from + c.loop-j.j) c.args.b [] (omega arith) h.1) ∙ rw z)
-
-pub returns : goal.returns
-returns c = λ e. let z : c.loop-j.j ≡ 64 = omega arith in c.loop-j.invariant.1 e ∙ rw z
+pub loop-x-preserved : goal.loop-x-preserved
+loop-x-preserved c = λ e.
+    let a = c.args in
+    let k = c.loop-x.x-index in
+    let h : k < a.from + 64 - a.from = omega (arith, length-take (a.from + 64 - a.from) (drop a.from a.s.now)) in
+    let other : get_or a.s.now (a.from + k) 0 ≡ a.b → ⊥ = λ q. eqb-false _ _ (not-true _ (and_right _ _ e)) (part_at a.s.now a.from (a.from + 64 - a.from) k h ∙ q) in
+    let z : a.from + (k + 1) ≡ a.from + k + 1 = omega arith in
+    c.loop-x.invariant (and_left _ _ e) ∙ from-no (a.b ∷ []) a.s.now (a.from + k) (omega arith) (byte_other a.s.now (a.from + k) a.b [] (omega arith) other) ∙ rw z

@@ -1,11 +1,7 @@
-use Prim.Native.Nat.{◌-◌, ◌≤◌}
 use mathlib.Core.List.{[], ◌∷◌}
 use Rattle.text.specs.Find.{first_from}
 use mathlib.Core.Path.{◌≡◌}
 use Rattle.text.proofs.find.byte_before.Given as goal
 
 abbrev pub invariant-loop-i : goal.invariant-loop-i
-invariant-loop-i l = (l.i ≤ l.stop) × (first_from (l.b ∷ []) l.s l.from ≡ first_from (l.b ∷ []) l.s l.i)
-
-abbrev pub decreases-loop-i : goal.decreases-loop-i
-decreases-loop-i l = l.stop - l.i
+invariant-loop-i l = first_from (l.b ∷ []) l.s l.from ≡ first_from (l.b ∷ []) l.s l.i

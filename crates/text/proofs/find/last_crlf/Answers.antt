@@ -6,19 +6,13 @@ use Rattle.text.proofs.find.last_crlf.Goals as goal
 
 pub loop-i-init : goal.loop-i-init
 unfolding last_of
-loop-i-init c = (omega arith, refl)
-
-pub crlf_at-requires : goal.crlf_at-requires
-crlf_at-requires c = omega arith
+loop-i-init c = refl
 
 pub returns-then-crlf_at : goal.returns-then-crlf_at
-returns-then-crlf_at c = sym (c.loop-i.invariant.1 ∙ below_yes crlf c.args.s.now c.loop-i.i (omega arith) (sym c.crlf_at.ensures ∙ c.if-crlf_at.true))
-
-pub loop-i-smaller : goal.loop-i-smaller
-loop-i-smaller c = omega arith
+returns-then-crlf_at c = sym (c.loop-i.invariant ∙ below_yes crlf c.args.s.now c.loop-i.i (omega arith) (sym c.crlf_at.ensures ∙ c.if-crlf_at.true))
 
 pub loop-i-preserved : goal.loop-i-preserved
-loop-i-preserved c = (omega arith, c.loop-i.invariant.1 ∙ below_no crlf c.args.s.now c.loop-i.i (omega arith) (sym c.crlf_at.ensures ∙ c.if-crlf_at.false))
+loop-i-preserved c = c.loop-i.invariant ∙ below_no crlf c.args.s.now c.loop-i.i (omega arith) (sym c.crlf_at.ensures ∙ c.if-crlf_at.false)
 
 pub returns : goal.returns
-returns c = sym (c.loop-i.invariant.1 ∙ below_end crlf c.args.s.now c.loop-i.i c.loop-i-test.false)
+returns c = sym (c.loop-i.invariant ∙ below_end crlf c.args.s.now c.loop-i.i (omega arith))

@@ -1,8 +1,8 @@
 use mathlib.Core.Path.{◌≡◌, sym, ◌∙◌, ap}
 use Prim.Native.Nat.{ℕ, ◌^◌}
 use mathlib.Core.List.{List}
+use Rattle.std.proofs.lemmas.Result.{err_from_is_err_and}
 use Rattle.text.specs.Number.{Num, number, signed, some}
-use Rattle.text.specs.NumberSteps.{spelt}
 use Rattle.text.proofs.NumberLaws.{number_fits}
 use Rattle.text.proofs.number.read.Goals as goal
 
@@ -11,11 +11,11 @@ of_width : (limit bits : ℕ) (s : List ℕ) (x : Num) → limit ≡ 2 ^ bits �
 unfolding number
 of_width limit bits s x e r = r ∙ ap (λ (n : ℕ). signed n s) e
 
+pub returns-in_err-n : goal.returns-in_err-n
+returns-in_err-n g c = let p = err_from_is_err_and c.from_residual.result c.from_residual.ensures.1 in rw (p.1, p.2) (of_width _ _ _ _ c.limit.ensures.0 c.in_err-n.ensures)
+
 pub narrow-requires : goal.narrow-requires
-narrow-requires g c = number_fits g.T.Width.bits c.in-Value.n c.args.s.now (sym (of_width _ _ _ _ c.limit.ensures.0 c.read_below.ensures) ∙ ap spelt c.in-Value.is)
+narrow-requires g c = number_fits g.T.Width.bits c.in_ok-n.n c.args.s.now (sym (of_width _ _ _ _ c.limit.ensures.0 c.in_ok-n.ensures))
 
-pub returns-in-Value : goal.returns-in-Value
-returns-in-Value g c = ap some c.narrow.ensures ∙ ap spelt (sym c.in-Value.is) ∙ of_width _ _ _ _ c.limit.ensures.0 c.read_below.ensures
-
-pub returns-in-Nothing : goal.returns-in-Nothing
-returns-in-Nothing g c = ap spelt (sym c.in-Nothing.is) ∙ of_width _ _ _ _ c.limit.ensures.0 c.read_below.ensures
+pub returns : goal.returns
+returns g c = ap some c.narrow.ensures ∙ of_width _ _ _ _ c.limit.ensures.0 c.in_ok-n.ensures

@@ -1,15 +1,22 @@
-use mathlib.Core.Path.{sym, ◌∙◌}
+use mathlib.Core.Path.{◌≡◌, sym, ◌∙◌}
+use Prim.Native.Nat.{◌-◌}
+use native.Mathlib.Omega.{arith}
+use lib.ListN.{length, drop, get_or, length-drop}
+use lib.Seq.{take_all}
 use Rattle.text.proofs.NumberLaws.{signed_empty, signed-plus, signed-plain}
 use Rattle.text.proofs.number.read_below.Goals as goal
 
-pub returns-then-s-eq0 : goal.returns-then-s-eq0
-returns-then-s-eq0 c = let a = c.args in
-    sym (signed_empty a.limit a.s.now c.if-s-eq0.true)
+pub returns-in-empty : goal.returns-in-empty
+returns-in-empty c = sym (signed_empty c.args.limit c.args.s.now (omega arith))
 
-pub returns-then-s-eq43 : goal.returns-then-s-eq43
-returns-then-s-eq43 c = let a = c.args in
-    c.digits_from.ensures ∙ sym (signed-plus a.limit a.s.now c.if-s-eq0.false c.if-s-eq43.true)
+pub returns-in-43 : goal.returns-in-43
+returns-in-43 c =
+    let s = c.args.s.now in
+    let e : get_or s 0 0 ≡ 43 = omega arith in
+    c.digits.ensures ∙ rw (take_all (length s - 1) (drop 1 s) (simp length-drop (omega arith))) (sym (signed-plus c.args.limit s (λ z. omega arith) e))
 
-pub returns-else-s-eq43 : goal.returns-else-s-eq43
-returns-else-s-eq43 c = let a = c.args in
-    c.digits_from-else-s-eq43.ensures ∙ sym (signed-plain a.limit a.s.now c.if-s-eq0.false c.if-s-eq43.false)
+pub returns-in_default : goal.returns-in_default
+returns-in_default c =
+    let s = c.args.s.now in
+    let n : get_or s 0 0 ≡ 43 → ⊥ = λ e. omega arith in
+    c.digits-in_default.ensures ∙ sym (signed-plain c.args.limit s (λ z. omega arith) n)

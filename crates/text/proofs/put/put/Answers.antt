@@ -1,13 +1,19 @@
-use mathlib.Core.Path.{sym, ◌∙◌}
+use mathlib.Core.Path.{◌≡◌, sym, ◌∙◌}
+use mathlib.Core.List.{append_assoc}
+use Prim.Native.Nat.{◌+◌, ◌-◌}
 use native.Mathlib.Omega.{arith}
-use Rattle.text.proofs.PutLaws.{room, no_room}
+use lib.ListN.{length}
+use lib.Seq.{drop-drop}
+use Rattle.text.specs.Put.{placed, wrote, after}
 use Rattle.text.proofs.put.put.Goals as goal
 
-pub returns-then-buf-at : goal.returns-then-buf-at
-returns-then-buf-at c = let n = no_room c.args.buf.now c.args.at c.args.src.now (omega arith) in (sym n.0, sym n.1)
-
-pub returns-then-buf-at-2 : goal.returns-then-buf-at-2
-returns-then-buf-at-2 c = let n = no_room c.args.buf.now c.args.at c.args.src.now (omega arith) in (sym n.0, sym n.1)
+pub returns-then-not-has_part : goal.returns-then-not-has_part
+unfolding wrote after
+returns-then-not-has_part c = let e = sym c.has_part.ensures ∙ c.if-not-has_part.true in (rw e, rw e)
 
 pub returns : goal.returns
-returns c = let n = room c.args.buf.now c.args.at c.args.src.now (omega arith) in (sym n.0, c.copy_at.ensures ∙ sym n.1)
+unfolding placed wrote after
+returns c =
+    let e = sym c.has_part.ensures ∙ c.if-not-has_part.false in
+    let n : c.args.at + length c.args.src.now - c.args.at ≡ length c.args.src.now = omega arith in
+    (rw e, rw (e, n, c.copy_from_slice.ensures.after, append_assoc, drop-drop))

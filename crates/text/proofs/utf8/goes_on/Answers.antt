@@ -1,17 +1,15 @@
-use Rattle.text.proofs.Utf8Laws.{going-no, going-yes}
+use mathlib.Core.Path.{refl, ◌∙◌}
+use mathlib.Core.List.{[], ◌∷◌}
 use native.Mathlib.Omega.{arith}
-use mathlib.Core.Path.{◌≡◌, sym, ◌∙◌}
-use Rattle.text.proofs.Utf8Laws.{going_end}
+use lib.ListN.{drop}
+use borrow.Author.Tests.{tests}
+use Rattle.std.proofs.Common.{rules}
+use Rattle.std.proofs.lemmas.Iterator.{YieldsList-from_range}
+use Rattle.std.proofs.lemmas.Iterator.Search.{all_from_yields_List}
+use Rattle.text.specs.Utf8.{◌‥◌, fits}
+use Rattle.text.proofs.Utf8Laws.{going_all}
 use Rattle.text.proofs.utf8.goes_on.Goals as goal
 
-pub returns-then-s-at : goal.returns-then-s-at
-returns-then-s-at c = sym (c.loop-left.invariant ∙ going_end _ _ _ c.loop-left-test.true c.if-s-at.true)
-
-pub returns-then-not-byte_in : goal.returns-then-not-byte_in
-returns-then-not-byte_in c = sym (c.loop-left.invariant ∙ going-no c.args.s.now c.loop-left.at _ _ c.loop-left-test.true c.byte_in.ensures c.if-not-byte_in.true)
-
-pub loop-left-preserved : goal.loop-left-preserved
-loop-left-preserved c = c.loop-left.invariant ∙ going-yes c.args.s.now c.loop-left.at _ _ c.loop-left-test.true c.byte_in.ensures c.if-not-byte_in.false
-
 pub returns : goal.returns
-returns c = let z : c.loop-left.left ≡ 0 = omega arith in sym (c.loop-left.invariant ∙ rw z)
+returns c = all_from_yields_List (λ k. fits (0x80 ‥ 0xBF ∷ []) (drop k c.args.s.now)) _ _ c.all.result c.all.ensures.ran (YieldsList-from_range c.args.i _ c.args.n refl (omega arith)) (λ x b q k. search (rules, tests))
+    ∙ going_all c.args.s.now c.args.n c.args.i
