@@ -40,7 +40,7 @@ pub enum Shape {
     Binary { fields: u8, but: usize },
 }
 
-// The walk stands at a place of the input, before the slot of its turn.
+// The walk stands at a place of the input, before the slot of its turn. `framed` is a flag, since `left` (specs/Part.antt) cuts by it any shape.
 #[derive(Clone, Copy)]
 pub struct PartWalk {
     pub framed: bool,

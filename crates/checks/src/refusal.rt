@@ -1,4 +1,5 @@
-// The numbers of the refusals.
+// The numbers of the refusals. They are functions: docs/PROMISES.md promises them by these names, `one-at-number` and `one-edm-number` are about them,
+// and a conversion of another crate's enum has no place here.
 ghost use Rattle.std.specs.Prelude.{◌≡◌, ◌+◌};
 ghost use Rattle.at.specs.Refusal.{refusal_no};
 ghost use Rattle.edm.specs.Refusal as edm;

@@ -39,13 +39,14 @@ pub(crate) struct Slot {
     pub len: Span,
 }
 
-// The fields whose length is known, in their order: those before the payload of a frame, and those of a connect event, which has the remote end first.
+// The fields before the payload of a frame, and their lengths.
 static HEAD: [(PartName, usize); 3] = [
     (PartName::StartByte, 1),
     (PartName::Length, 2),
     (PartName::Identifier, 2),
 ];
 
+// Those of a connect event, which has the remote end first.
 static CONNECT: [(PartName, usize); 7] = [
     (PartName::Channel, 1),
     (PartName::ConnectType, 1),
@@ -56,12 +57,14 @@ static CONNECT: [(PartName, usize); 7] = [
     (PartName::LocalPort, 2),
 ];
 
+// The last byte, wherever the slots of the payload ended.
 const END: Slot = Slot {
     pass: Span::AllBut(1),
     name: PartName::EndByte,
     len: Span::Exactly(1),
 };
 
+// So many bytes, right away.
 fn fixed(name: PartName, n: usize) -> Slot
     ensures { result ≡ fixedFor name n }
 {
@@ -72,6 +75,7 @@ fn fixed(name: PartName, n: usize) -> Slot
     }
 }
 
+// All but the last bytes, right away.
 fn rest_slot(name: PartName, but: usize) -> Slot
     ensures { result ≡ slotFor (Span.Exactly 0) name (Span.AllBut but) }
 {
@@ -82,6 +86,7 @@ fn rest_slot(name: PartName, but: usize) -> Slot
     }
 }
 
+// The name of an event, after the first two bytes of its line and up to the colon.
 fn name_slot(but: usize) -> Slot
     ensures { result ≡ name_slot but }
 {
@@ -92,6 +97,7 @@ fn name_slot(but: usize) -> Slot
     }
 }
 
+// A field of an event, after its colon or comma.
 fn field_slot(i: u8, stop: u8, but: usize) -> Slot
     ensures { result ≡ slotFor (Span.Exactly 1) (PartName.Field i) (Span.UpTo stop but) }
 {
@@ -102,6 +108,7 @@ fn field_slot(i: u8, stop: u8, but: usize) -> Slot
     }
 }
 
+// The slot with a number, counted from 0, of fields with known lengths.
 fn fixed_slot(fields: &[(PartName, usize)], i: usize) -> Option<Slot>
     ensures { result ≡ slice_get (map (λ f. fixedFor f.0 f.1) fields.now) i }
 {
@@ -122,7 +129,7 @@ fn event_slot(fields: u8, but: usize, i: usize) -> Option<Slot>
     }
 }
 
-// What follows the fields of a binary event.
+// What follows the fields of a binary event. The data depends on the input, so that these are no table.
 fn marked_slot(but: usize, i: usize) -> Option<Slot>
     ensures { result ≡ slice_get (marked_tail but) i }
 {
@@ -174,6 +181,7 @@ fn shape_slot(shape: Shape, i: usize) -> Option<Slot>
     }
 }
 
+// How many slots there are.
 #[tactic(auto, using(crate::proofs::SlotLaws::counted))]
 fn shape_count(shape: Shape) -> usize
     ensures count { result ≡ length (shape_slots shape) }
@@ -182,12 +190,10 @@ fn shape_count(shape: Shape) -> usize
     match shape {
         Shape::Connect => CONNECT.len(),
         Shape::Data => 2,
-        Shape::Disconnect => 1,
-        Shape::Request => 1,
-        Shape::Response { skip: _, len: _ } => 1,
+        Shape::Disconnect | Shape::Request | Shape::Response { .. } => 1,
         Shape::Bare => 0,
-        Shape::Event { fields, but: _ } => usize::from(fields) + 1,
-        Shape::Binary { fields, but: _ } => usize::from(fields) + 4,
+        Shape::Event { fields, .. } => usize::from(fields) + 1,
+        Shape::Binary { fields, .. } => usize::from(fields) + 4,
     }
 }
 

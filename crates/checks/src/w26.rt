@@ -38,7 +38,7 @@ impl Line for ATEvent {
     ghost known = { inl refl };
 }
 
-// The line that starts at `from`, which takes up the rest of the buffer.
+// The line that starts at `from`, which takes up the rest of the buffer. It has a name of its own, since `w26-explained` is about it.
 pub fn explain(
     s: &[u8],
     from: usize,

@@ -40,7 +40,7 @@ impl Line for ATEvent {
     ghost known = { inr refl };
 }
 
-// The line that starts at `from`.
+// The line that starts at `from`. It has a name of its own, since `w36-explained` is about it.
 pub fn explain(
     s: &[u8],
     from: usize,
