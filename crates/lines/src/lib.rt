@@ -7,3 +7,4 @@ pub mod hex;
 pub mod input;
 pub mod number;
 pub mod output;
+pub mod session;
