@@ -4,10 +4,11 @@
 ghost use Rattle.std.specs.Prelude.{◌≤◌, ◌≡◌, length, take};
 ghost use Rattle.judge.specs.Judgement.{judgement};
 
+use lines::args::has_argument;
 use lines::input::read_full;
 use lines::output::say_failure;
 use render::word::word;
-use std::env::{Env, FillError};
+use std::env::Env;
 use std::io::Read;
 use text::bytes::part;
 
@@ -22,30 +23,22 @@ fn judge(line: &mut [u8], input: &[u8]) -> usize
     word(line, end, b"\n")
 }
 
-// Whether there is an argument beside the program's name.
-fn has_argument(rt: &impl Env) -> bool {
-    let mut given = [0u8; 1];
-    match rt.arg(1, &mut given) {
-        Ok(_) => true,
-        Err(FillError::TooLong) => true,
-        Err(FillError::NotPresent) => false,
-    }
-}
-
 fn run(rt: &(impl Print + Eprint + Env), from: &mut impl Read) {
     // A name of a file would go unread, and the line would then be about other bytes.
-    if has_argument(rt) {
+    if has_argument(rt, 1) {
         let _ = eprintln!(rt; "judge: takes no argument, reads the frame from standard input");
         return;
     }
     let mut input = [0u8; 4100];
-    let got = read_full(from, &mut input, 0);
-    if got.failed.is_some() {
-        say_failure(rt, "judge: cannot read standard input", got.failed);
-        return;
-    }
+    let count = match read_full(from, &mut input, 0) {
+        Ok(n) => n,
+        Err(e) => {
+            say_failure(rt, "judge: cannot read standard input", Some(e));
+            return;
+        }
+    };
     let mut line = [0u8; 8400];
-    let n = judge(&mut line, part(&input, 0, got.count));
+    let n = judge(&mut line, part(&input, 0, count));
     if let Err(e) = rt.write_all(part(&line, 0, n)) {
         say_failure(rt, "judge: cannot write standard output", Some(e));
     }
