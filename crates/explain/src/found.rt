@@ -1,36 +1,35 @@
 // What stands in the input in place of what a check requires.
-use crate::event::is_before_marker;
-use crate::pen::{Pen, Style, counted, hex, less, numbered, quoted, raw, write};
-use crate::subject::{Subject, body, field_from, name, word_at};
+use crate::show::{Counted, Hex, Quoted};
+use crate::subject::{Subject, word_at};
 use checks::CheckName;
+use lines::cut::cut_at;
+use std::fmt;
+use std::fmt::Formatter;
 use text::bytes::part;
-use text::find::{Found, first_byte, first_crlf};
+use text::find::first_crlf;
 
 // So many columns of a text fit into a sentence.
 const COLUMNS: usize = 24;
 
-fn has(out: &mut [u8], pen: Pen, n: usize) -> Pen {
-    numbered(out, pen, b"; this one has #", n)
+// The end of the sentence on a check that does not hold, and the byte that shows it.
+#[derive(Clone, Copy)]
+pub(crate) struct Instead<'a> {
+    pub subject: Subject<'a>,
+    pub check: CheckName,
+    pub byte: usize,
 }
 
-fn is_bytes(out: &mut [u8], pen: Pen, s: &[u8]) -> Pen {
-    let p = raw(out, pen, b"; this one is ");
-    hex(out, p, s)
+fn has<W: fmt::Write>(f: &mut Formatter<W>, n: usize) -> fmt::Result {
+    write!(f, "; this one has {n}")
 }
 
-fn is_text(out: &mut [u8], pen: Pen, s: &[u8]) -> Pen {
-    let p = raw(out, pen, b"; this one is ");
-    quoted(out, p, s, COLUMNS)
+fn is_bytes<W: fmt::Write>(f: &mut Formatter<W>, s: &[u8]) -> fmt::Result {
+    write!(f, "; this one is {}", Hex(s))
 }
 
-fn is_field(out: &mut [u8], pen: Pen, s: &[u8], x: Subject, byte: usize, i: u8) -> Pen {
-    let is_last = is_before_marker(x.row, i as usize);
-    is_text(out, pen, field_from(s, x, byte, is_last))
-}
-
-fn says(out: &mut [u8], pen: Pen, said: u16, then: &[u8], there: usize) -> Pen {
-    let p = numbered(out, pen, b"; it says #", said as usize);
-    numbered(out, p, then, there)
+fn is_text<W: fmt::Write>(f: &mut Formatter<W>, text: &[u8]) -> fmt::Result {
+    let columns = COLUMNS;
+    write!(f, "; this one is {}", Quoted { text, columns })
 }
 
 // The low 12 bits of the length field count.
@@ -38,128 +37,85 @@ pub(crate) fn frame_length(s: &[u8]) -> u16 {
     word_at(s, 1) % 4096
 }
 
-fn data_says(out: &mut [u8], pen: Pen, s: &[u8]) -> Pen {
-    let marked = match first_byte(s, 0, 1) {
-        Found::At(i) => part(s, i, s.len()),
-        Found::Nothing => part(s, 0, 0),
-    };
-    let there = less(marked.len(), 3);
-    says(out, pen, word_at(marked, 1), b", there are #", there)
+fn frame_says<W: fmt::Write>(f: &mut Formatter<W>, s: &[u8]) -> fmt::Result {
+    let said = frame_length(s);
+    let there = s.len().saturating_sub(4);
+    write!(f, "; it says {said}, they have {there}")
 }
 
-fn length_bytes(s: &[u8]) -> usize {
-    match first_byte(s, 0, 1) {
-        Found::At(i) => less(less(s.len(), i), 1),
-        Found::Nothing => 0,
-    }
+// What follows the first byte 01: the length of the data of a binary event, and the data.
+fn after_marker(s: &[u8]) -> &[u8] {
+    cut_at(s, 1).map_or(b"", |(_, after)| after)
 }
 
-fn no_character(out: &mut [u8], pen: Pen, s: &[u8], byte: usize) -> Pen {
-    let p = numbered(out, pen, b"; byte # (", byte);
-    let q = hex(out, p, part(s, byte, 1));
-    raw(out, q, b") begins no whole character")
+fn data_says<W: fmt::Write>(f: &mut Formatter<W>, s: &[u8]) -> fmt::Result {
+    let after = after_marker(s);
+    let said = word_at(after, 0);
+    let there = after.len().saturating_sub(2);
+    write!(f, "; it says {said}, there are {there}")
+}
+
+fn no_character<W: fmt::Write>(f: &mut Formatter<W>, s: &[u8], byte: usize) -> fmt::Result {
+    let wrong = Hex(part(s, byte, 1));
+    write!(f, "; byte {byte} ({wrong}) begins no whole character")
 }
 
 // The last two bytes of what should end in CR LF.
-fn ends(out: &mut [u8], pen: Pen, rest: &[u8]) -> Pen {
-    if rest.len() == 0 {
-        return raw(out, pen, b"; nothing follows");
+fn ends<W: fmt::Write>(f: &mut Formatter<W>, rest: &[u8]) -> fmt::Result {
+    if rest.is_empty() {
+        return f.write_str("; nothing follows");
     }
-    let p = raw(out, pen, b"; this ends in");
-    write(out, p, part(rest, less(rest.len(), 2), 2), Style::SpacedHex)
+    f.write_str("; this ends in")?;
+    for b in part(rest, rest.len().saturating_sub(2), 2) {
+        write!(f, " {b:02X}")?;
+    }
+    Ok(())
 }
 
 fn after_first_line_end(t: &[u8]) -> &[u8] {
     match first_crlf(t, 0) {
-        Found::At(i) => part(part(t, i, t.len()), 2, t.len()),
-        Found::Nothing => part(t, 0, 0),
+        Some(i) => part(part(t, i, t.len()), 2, t.len()),
+        None => b"",
     }
 }
 
-fn fields_there(out: &mut [u8], pen: Pen, i: u8) -> Pen {
-    counted(out, pen, b"; this event has # field", less(i as usize, 1))
+fn fields_there<W: fmt::Write>(f: &mut Formatter<W>, i: u8) -> fmt::Result {
+    let n = usize::from(i.saturating_sub(1));
+    write!(f, "; this event has {}", Counted { n, of: "field" })
 }
 
-// What is said of an input in place of what a check requires.
-#[derive(Clone, Copy)]
-enum Instead {
-    Count(usize),
-    Bytes(usize),
-    Lengths,
-    NoCharacter,
-    GoesOn,
-    LineEnds,
-    ResponseEnds,
-    Name,
-    Fields(u8),
-    Field(u8),
-    Nothing,
-    LengthBytes,
-    DataBytes,
-}
-
-// `n` is how many bytes the input has, `m` how many its payload or its line.
-fn instead_of(check: CheckName, n: usize, m: usize) -> Instead {
-    match check {
-        CheckName::FrameOfTwo => Instead::Count(n),
-        CheckName::StartByte => Instead::Bytes(1),
-        CheckName::EndByte => Instead::Bytes(1),
-        CheckName::FrameOfSix => Instead::Count(n),
-        CheckName::FrameLength => Instead::Lengths,
-        CheckName::Identifier => Instead::Bytes(2),
-        CheckName::ConnectOfTwo => Instead::Count(m),
-        CheckName::ConnectType => Instead::Bytes(1),
-        CheckName::ConnectSize => Instead::Count(less(m, 2)),
-        CheckName::DisconnectSize => Instead::Count(m),
-        CheckName::DataChannel => Instead::Count(m),
-        CheckName::RequestUtf8 => Instead::NoCharacter,
-        CheckName::Utf8 => Instead::NoCharacter,
-        CheckName::LineOfTwo => Instead::Count(m),
-        CheckName::PlaceTwo => Instead::GoesOn,
-        CheckName::LineEnd => Instead::LineEnds,
-        CheckName::EventName => Instead::Name,
-        CheckName::FieldThere(i) => Instead::Fields(i),
-        CheckName::FieldEmpty(i) => Instead::Field(i),
-        CheckName::FieldByte(i) => Instead::Field(i),
-        CheckName::FieldLarge(i) => Instead::Field(i),
-        CheckName::FieldListed(i) => Instead::Field(i),
-        CheckName::FieldType(i) => Instead::Field(i),
-        CheckName::FirstLineEnd => Instead::Nothing,
-        CheckName::LastLineEnd => Instead::ResponseEnds,
-        CheckName::Marker => Instead::Nothing,
-        CheckName::LengthBytes => Instead::LengthBytes,
-        CheckName::DataBytes => Instead::DataBytes,
-    }
-}
-
-pub(crate) fn found(
-    out: &mut [u8],
-    pen: Pen,
-    s: &[u8],
-    check: CheckName,
-    x: Subject,
-    byte: usize,
-) -> Pen {
-    let t = body(s, x);
-    match instead_of(check, s.len(), t.len()) {
-        Instead::Count(n) => has(out, pen, n),
-        Instead::Bytes(n) => is_bytes(out, pen, part(s, byte, n)),
-        Instead::Lengths => says(
-            out,
-            pen,
-            frame_length(s),
-            b", they have #",
-            less(s.len(), 4),
-        ),
-        Instead::NoCharacter => no_character(out, pen, s, byte),
-        Instead::GoesOn => raw(out, pen, b"; here a character goes on after them"),
-        Instead::LineEnds => ends(out, pen, part(t, 2, t.len())),
-        Instead::ResponseEnds => ends(out, pen, after_first_line_end(t)),
-        Instead::Name => is_text(out, pen, name(s, x)),
-        Instead::Fields(i) => fields_there(out, pen, i),
-        Instead::Field(i) => is_field(out, pen, s, x, byte, i),
-        Instead::Nothing => raw(out, pen, b"; this one has none"),
-        Instead::LengthBytes => has(out, pen, length_bytes(s)),
-        Instead::DataBytes => data_says(out, pen, s),
+impl<'a> fmt::Display for Instead<'a> {
+    fn fmt<W: fmt::Write>(&self, f: &mut Formatter<W>) -> fmt::Result {
+        let x = self.subject;
+        let s = x.input;
+        let byte = self.byte;
+        let body = x.body();
+        match self.check {
+            CheckName::FrameOfTwo | CheckName::FrameOfSix => has(f, s.len()),
+            CheckName::ConnectOfTwo
+            | CheckName::DisconnectSize
+            | CheckName::DataChannel
+            | CheckName::LineOfTwo => has(f, body.len()),
+            CheckName::ConnectSize => has(f, body.len().saturating_sub(2)),
+            CheckName::StartByte | CheckName::EndByte | CheckName::ConnectType => {
+                is_bytes(f, part(s, byte, 1))
+            }
+            CheckName::Identifier => is_bytes(f, part(s, byte, 2)),
+            CheckName::FrameLength => frame_says(f, s),
+            CheckName::RequestUtf8 | CheckName::Utf8 => no_character(f, s, byte),
+            CheckName::PlaceTwo => f.write_str("; here a character goes on after them"),
+            CheckName::LineEnd => ends(f, part(body, 2, body.len())),
+            CheckName::LastLineEnd => ends(f, after_first_line_end(body)),
+            CheckName::EventName => is_text(f, x.name()),
+            CheckName::FieldThere(i) => fields_there(f, i),
+            CheckName::FieldEmpty(i)
+            | CheckName::FieldByte(i)
+            | CheckName::FieldLarge(i)
+            | CheckName::FieldListed(i)
+            | CheckName::FieldType(i) => is_text(f, x.field_from(i, byte)),
+            CheckName::FirstLineEnd | CheckName::Marker => f.write_str("; this one has none"),
+            CheckName::LengthBytes => has(f, after_marker(s).len()),
+            CheckName::DataBytes => data_says(f, s),
+        }
     }
 }

@@ -1,52 +1,56 @@
 // The checks that held before the one that did not: a line each, and one for all checks of a field.
-use crate::order::{field_of, first_check, is_same, next_check};
-use crate::pen::{Pen, either, raw};
-use crate::sentence::{bare_requirement, requirement};
+use crate::form::Form;
+use crate::order::{field_of, first_check, next_check};
+use crate::requirement::{BareRequirement, Requirement, is_same};
 use crate::subject::Subject;
 use checks::CheckName;
+use std::{fmt, iter};
 
 // No input has so many checks.
-const MOST: usize = 64;
+const MOST: usize = 65;
 
-fn end_line(out: &mut [u8], pen: Pen) -> Pen {
-    either(out, pen, b"\n", b"</li>\n")
+// A check and, where it is about a field, those after it that are about the same field.
+#[derive(Clone, Copy)]
+struct HeldLine<'a> {
+    first: Requirement<'a>,
+    broken: CheckName,
 }
 
-// A check after another one, which was about the field `before`, or about none.
-fn one(out: &mut [u8], pen: Pen, check: CheckName, x: Subject, before: u8) -> Pen {
-    let field = field_of(check);
-    if 0 < field && field == before {
-        let p = raw(out, pen, b", ");
-        return bare_requirement(out, p, check, x);
+impl<'a> fmt::Display for HeldLine<'a> {
+    fn fmt<W: fmt::Write>(&self, f: &mut fmt::Formatter<W>) -> fmt::Result {
+        let Requirement { check, subject } = self.first;
+        let broken = self.broken;
+        write!(f, "{}", self.first)?;
+        let field = field_of(check);
+        let next = |c: &CheckName| next_check(*c, subject);
+        let others = iter::successors(next(&check), next);
+        let others = others.take_while(|c| field.is_some() && field_of(*c) == field);
+        for check in others.take_while(|c| !is_same(*c, broken)).take(MOST) {
+            write!(f, ", {}", BareRequirement(Requirement { check, subject }))?;
+        }
+        Ok(())
     }
-    let p = either(out, pen, b"\n  ", b"</li>\n<li>");
-    requirement(out, p, check, x)
 }
 
-fn first_line(out: &mut [u8], pen: Pen, first: CheckName, broken: CheckName, x: Subject) -> Pen {
-    let p = either(out, pen, b"  ", b"<li>");
+pub(crate) fn write_held<F: Form, W: fmt::Write>(
+    to: &mut W,
+    broken: CheckName,
+    subject: Subject,
+) -> fmt::Result {
+    let first = first_check(subject);
     if is_same(first, broken) {
-        raw(out, p, b"none; it is the first check")
-    } else {
-        requirement(out, p, first, x)
+        return F::item(to, "none; it is the first check");
     }
-}
-
-pub(crate) fn held(out: &mut [u8], pen: Pen, broken: CheckName, x: Subject) -> Pen {
-    let mut check = first_check(x);
-    let mut p = first_line(out, pen, check, broken, x);
-    let mut turns = 0;
-    while turns < MOST {
-        if is_same(check, broken) {
-            break;
+    let checks = iter::successors(Some(first), |c| next_check(*c, subject));
+    let held = checks.take_while(|c| !is_same(*c, broken));
+    let mut before = None;
+    for check in held.take(MOST) {
+        let field = field_of(check);
+        if field.is_none() || field != before {
+            let first = Requirement { check, subject };
+            F::item(to, HeldLine { first, broken })?;
         }
-        let before = field_of(check);
-        check = next_check(check, x, broken);
-        if is_same(check, broken) {
-            break;
-        }
-        p = one(out, p, check, x, before);
-        turns += 1;
+        before = field;
     }
-    end_line(out, p)
+    Ok(())
 }

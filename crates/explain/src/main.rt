@@ -2,121 +2,93 @@
 // which bytes each field came from, or which check refused it and at which byte.
 #![tactic(auto)]
 
-mod dump;
 mod event;
 mod fields;
+mod form;
 mod found;
 mod held;
-mod html;
-mod list;
+mod html_page;
 mod marks;
 mod order;
+mod packet;
 mod page;
-mod pen;
-mod sentence;
+mod requirement;
+mod show;
+mod style;
 mod subject;
+mod text_page;
 mod verdict;
 
-use crate::page::page;
-use crate::subject::Kind;
+use crate::html_page::HtmlPage;
+use crate::page::write_page;
+use crate::subject::{Kind, TextKind};
+use crate::text_page::TextPage;
+use lines::args::{has_argument, is_word};
 use lines::input::read_full;
 use lines::output::say_failure;
-use std::env::{Env, FillError};
+use std::env::Env;
+use std::fmt::InlineText;
 use std::io::Read;
-use text::bytes::{part, same};
+use text::bytes::part;
 
-// What the arguments ask for, if they are understood.
+// What the arguments ask for.
 #[derive(Clone, Copy)]
-enum Asked {
-    Page { kind: Kind, html: bool },
-    Unknown,
+struct Asked {
+    kind: Kind,
+    html: bool,
 }
 
-// Whether the argument with a number is a word; a missing one is none.
-fn is_word(rt: &impl Env, i: usize, word: &[u8]) -> bool {
-    let mut given = [0u8; 16];
-    match rt.arg(i, &mut given) {
-        Ok(n) => same(part(&given, 0, n), word),
-        Err(_) => false,
-    }
+// The kind of text that an argument names.
+fn text_kind(rt: &impl Env, i: usize) -> Option<TextKind> {
+    [
+        TextKind::W26,
+        TextKind::W36,
+        TextKind::Binary,
+        TextKind::Response,
+    ]
+    .into_iter()
+    .find(|kind| is_word(rt, i, kind.word()))
 }
 
-// Whether there is an argument with a number.
-fn has_argument(rt: &impl Env, i: usize) -> bool {
-    let mut given = [0u8; 1];
-    match rt.arg(i, &mut given) {
-        Ok(_) => true,
-        Err(FillError::TooLong) => true,
-        Err(FillError::NotPresent) => false,
-    }
-}
-
-// The kind that the argument after `--html` names, or else the first one. It has to be the last.
-fn asked_kind(rt: &impl Env, html: bool) -> Asked {
+// The kind is named by the argument after `--html`, or else by the first one. It has to be the last.
+fn request(rt: &impl Env) -> Option<Asked> {
+    let html = is_word(rt, 1, b"--html");
     let i = if html { 2 } else { 1 };
     if !has_argument(rt, i) {
-        return Asked::Page {
-            kind: Kind::Frame,
-            html,
-        };
+        let kind = Kind::Frame;
+        return Some(Asked { kind, html });
     }
     if has_argument(rt, i + 1) {
-        return Asked::Unknown;
+        return None;
     }
-    if is_word(rt, i, b"w26") {
-        return Asked::Page {
-            kind: Kind::W26,
-            html,
-        };
-    }
-    if is_word(rt, i, b"w36") {
-        return Asked::Page {
-            kind: Kind::W36,
-            html,
-        };
-    }
-    if is_word(rt, i, b"binary") {
-        return Asked::Page {
-            kind: Kind::Binary,
-            html,
-        };
-    }
-    if is_word(rt, i, b"response") {
-        return Asked::Page {
-            kind: Kind::Response,
-            html,
-        };
-    }
-    Asked::Unknown
+    let kind = Kind::Text(text_kind(rt, i)?);
+    Some(Asked { kind, html })
 }
 
-fn request(rt: &impl Env) -> Asked {
-    if is_word(rt, 1, b"--html") {
-        asked_kind(rt, true)
-    } else {
-        asked_kind(rt, false)
-    }
-}
-
-// A byte of the input takes at most 90 of the page (html.rt), so there is room for 4,100 of them and all else.
-fn explain(rt: &(impl Print + Eprint), from: &mut impl Read, kind: Kind, html: bool) {
+// A byte of the input takes at most 90 of the page (html_page.rt), so there is room for 4,100 of them and all else.
+fn explain(rt: &(impl Print + Eprint), from: &mut impl Read, asked: Asked) {
     let mut input = [0u8; 4100];
-    let got = read_full(from, &mut input, 0);
-    if got.failed.is_some() {
-        say_failure(rt, "explain: cannot read standard input", got.failed);
-        return;
-    }
-    let mut out = [0u8; 524288];
-    let n = page(&mut out, part(&input, 0, got.count), kind, html);
-    if let Err(e) = rt.write_all(part(&out, 0, n)) {
+    let n = match read_full(from, &mut input, 0) {
+        Ok(n) => n,
+        Err(e) => return say_failure(rt, "explain: cannot read standard input", Some(e)),
+    };
+    let s = part(&input, 0, n);
+    let mut page = InlineText::<524288>::new();
+    // It fails only where the page has no room.
+    let _ = if asked.html {
+        write_page::<HtmlPage, _>(&mut page, s, asked.kind)
+    } else {
+        write_page::<TextPage, _>(&mut page, s, asked.kind)
+    };
+    if let Err(e) = rt.write_all(page.as_str().as_bytes()) {
         say_failure(rt, "explain: cannot write standard output", Some(e));
     }
 }
 
 fn run(rt: &(impl Print + Eprint + Env), from: &mut impl Read) {
     match request(rt) {
-        Asked::Page { kind, html } => explain(rt, from, kind, html),
-        Asked::Unknown => {
+        Some(asked) => explain(rt, from, asked),
+        None => {
             let _ = eprintln!(rt;
                 "explain: usage: explain [--html] [w26|w36|binary|response], with the input on standard input"
             );

@@ -1,70 +1,73 @@
-// Which byte belongs to which field, and which one was refused: a number for each place.
-use checks::part::{PartStep, PartWalk};
+// Which byte belongs to which field, and which one was refused.
+use crate::fields::Numbered;
+use crate::verdict::Verdict;
+use checks::part::PartWalk;
 
-// No input has so many fields.
-pub(crate) const MOST: u8 = 32;
+// So many places have an owner; the input is shorter.
+const PLACES: usize = 4112;
 
-// The number at the place that was refused. That may be the one just past the input.
-pub(crate) const REFUSED: u8 = 255;
-
-fn own(owners: &mut [u8], start: usize, len: usize, number: u8) {
-    let mut i = start;
-    let mut left = len;
-    while i < owners.len() {
-        if left == 0 {
-            return;
-        }
-        owners[i] = number;
-        i += 1;
-        left -= 1;
-    }
+// What a byte belongs to. Fields are counted from 1.
+#[derive(Clone, Copy, PartialEq, Eq)]
+pub(crate) enum Owner {
+    Nobody,
+    Field(u8),
+    Refused,
 }
 
-pub(crate) fn mark_refused(owners: &mut [u8], byte: usize) {
-    own(owners, byte, 1, REFUSED);
+#[derive(Drop)]
+pub(crate) struct Owners {
+    of: [Owner; PLACES],
 }
 
-// Gives the bytes of each field its number, counted from 1. A byte of no field keeps 0.
-pub(crate) fn number_fields(owners: &mut [u8], s: &[u8], fields: PartWalk) {
-    let mut walk = fields;
-    let mut number: u8 = 1;
-    while number < MOST {
-        let PartStep::Part {
-            name: _,
-            start,
-            len,
-            rest,
-        } = walk.next(s)
-        else {
-            return;
+impl Owners {
+    pub(crate) fn new(s: &[u8], said: Verdict) -> Owners {
+        let mut owners = Owners {
+            of: [Owner::Nobody; PLACES],
         };
-        own(owners, start, len, number);
-        walk = rest;
-        number += 1;
+        match said {
+            Ok(Some(accepted)) => owners.number_fields(s, accepted.fields),
+            Ok(None) => {}
+            // The place may be the one just past the input.
+            Err(refused) => owners.own(refused.byte, 1, Owner::Refused),
+        }
+        owners
     }
-}
 
-pub(crate) fn owner(owners: &[u8], place: usize) -> u8 {
-    if place < owners.len() {
-        owners[place]
-    } else {
-        0
+    fn own(&mut self, start: usize, len: usize, owner: Owner) {
+        for place in self.of.iter_mut().skip(start).take(len) {
+            *place = owner;
+        }
     }
-}
 
-// Whether the byte before a place belongs to the same field.
-pub(crate) fn goes_back(owners: &[u8], place: usize) -> bool {
-    if place == 0 {
-        return false;
+    fn number_fields(&mut self, s: &[u8], fields: PartWalk) {
+        for (number, step) in Numbered::new(s, fields) {
+            self.own(step.start, step.len, Owner::Field(number));
+        }
     }
-    owner(owners, place - 1) == owner(owners, place)
-}
 
-// Whether the byte after a place does.
-pub(crate) fn goes_on(owners: &[u8], place: usize) -> bool {
-    if place < owners.len() {
-        owner(owners, place + 1) == owner(owners, place)
-    } else {
-        false
+    pub(crate) fn at(&self, place: usize) -> Owner {
+        self.of.get(place).copied().unwrap_or(Owner::Nobody)
+    }
+
+    // Whether the byte before a place belongs to the same field.
+    pub(crate) fn goes_back(&self, place: usize) -> bool {
+        place
+            .checked_sub(1)
+            .is_some_and(|before| self.at(before) == self.at(place))
+    }
+
+    // Whether the byte after a place does.
+    pub(crate) fn goes_on(&self, place: usize) -> bool {
+        self.at(place.saturating_add(1)) == self.at(place)
+    }
+
+    // Where the places end that are shown: the one just past the input is, where it was refused.
+    pub(crate) fn shown_end(&self, s: &[u8]) -> usize {
+        let n = s.len();
+        if self.at(n) == Owner::Refused {
+            n.saturating_add(1)
+        } else {
+            n
+        }
     }
 }

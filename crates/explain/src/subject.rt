@@ -1,149 +1,166 @@
 // What an input is read as, and what stands where in it.
-ghost use Rattle.std.specs.Prelude.{◌<◌};
-
-use crate::event::{UNKNOWN, row_of};
-use crate::list::item;
-use crate::pen::less;
+use crate::event::{Event, FieldKind};
+use crate::packet::Packet;
+use lines::cut::cut_at;
+use std::fmt;
 use text::bytes::part;
-use text::find::{Found, first_byte, first_crlf};
+use text::find::first_crlf;
 
-#[derive(Clone, Copy)]
-pub(crate) enum Kind {
-    Frame,
+// A text of the radio, alone or in a frame.
+#[derive(Clone, Copy, PartialEq, Eq)]
+pub(crate) enum TextKind {
     W26,
     W36,
     Binary,
     Response,
 }
 
-// The place of a kind in a list of words.
-pub(crate) fn kind_number(kind: Kind) -> usize {
-    match kind {
-        Kind::Frame => 0,
-        Kind::W26 => 1,
-        Kind::W36 => 2,
-        Kind::Binary => 3,
-        Kind::Response => 4,
+impl TextKind {
+    // The argument that names it.
+    pub(crate) fn word(self) -> &'static [u8] {
+        match self {
+            TextKind::W26 => b"w26",
+            TextKind::W36 => b"w36",
+            TextKind::Binary => b"binary",
+            TextKind::Response => b"response",
+        }
     }
 }
 
-// `inner` is what the payload of a frame is; it is `Frame` where the payload holds no line and no response. Of anything else it is its kind.
-// `end` is where the payload or the line ends, `text_end` where the fields of its event end, `row` which event it is (event.rt).
-#[derive(Clone, Copy)]
-pub(crate) struct Subject {
-    pub kind: Kind,
-    pub inner: Kind,
-    pub framed: bool,
-    pub identifier: u16,
-    pub end: usize,
-    pub text_end: usize,
-    pub row: usize,
+#[derive(Clone, Copy, PartialEq, Eq)]
+pub(crate) enum Kind {
+    Frame,
+    Text(TextKind),
 }
 
-fn wide(b: u8) -> u16
-    ensures { result < 256 }
-{
-    b as u16
+impl fmt::Display for Kind {
+    fn fmt<W: fmt::Write>(&self, f: &mut fmt::Formatter<W>) -> fmt::Result {
+        f.write_str(match self {
+            Kind::Frame => "EDM frame",
+            Kind::Text(TextKind::W26) => "W26 event line",
+            Kind::Text(TextKind::W36) => "W36 event line",
+            Kind::Text(TextKind::Binary) => "W36 binary event",
+            Kind::Text(TextKind::Response) => "AT response",
+        })
+    }
+}
+
+// An input and what it is read as. `packet` is the packet that a frame holds, `text` what is read as text: all, or the payload of a frame, if that
+// is a line or a response. `end` is where the payload or the line ends, `text_end` where the fields of its event end.
+#[derive(Clone, Copy)]
+pub(crate) struct Subject<'a> {
+    pub input: &'a [u8],
+    pub kind: Kind,
+    pub packet: Option<Packet>,
+    pub text: Option<TextKind>,
+    pub end: usize,
+    pub text_end: usize,
+    pub event: Option<Event>,
 }
 
 // Two bytes, high first; 0 where there are fewer.
 pub(crate) fn word_at(s: &[u8], at: usize) -> u16 {
-    let t = part(s, at, 2);
-    if t.len() < 2 {
-        return 0;
-    }
-    wide(t[0]) * 256 + wide(t[1])
-}
-
-// Where the payload or the line begins, and where the name of an event does.
-pub(crate) fn begin(x: Subject) -> usize {
-    if x.framed { 5 } else { 0 }
-}
-
-pub(crate) fn name_start(x: Subject) -> usize {
-    if x.framed { 7 } else { 2 }
-}
-
-// The payload or the line.
-pub(crate) fn body(s: &[u8], x: Subject) -> &[u8] {
-    part(part(s, 0, x.end), begin(x), s.len())
-}
-
-// What stands from the name of an event on, up to the end of its fields.
-fn event_text(s: &[u8], x: Subject) -> &[u8] {
-    part(part(s, 0, x.text_end), name_start(x), s.len())
-}
-
-pub(crate) fn name(s: &[u8], x: Subject) -> &[u8] {
-    item(event_text(s, x), b':', 0)
-}
-
-// The bytes of a field that starts at a place. A comma ends it, but for the last field of a binary event.
-pub(crate) fn field_from(s: &[u8], x: Subject, at: usize, is_last: bool) -> &[u8] {
-    let t = part(part(s, 0, x.text_end), at, s.len());
-    if is_last { t } else { item(t, b',', 0) }
-}
-
-fn inner_of(kind: Kind, identifier: u16) -> Kind {
-    match kind {
-        Kind::Frame => match identifier {
-            0x0041 => Kind::W26,
-            0x0045 => Kind::Response,
-            _ => Kind::Frame,
-        },
-        Kind::W26 => Kind::W26,
-        Kind::W36 => Kind::W36,
-        Kind::Binary => Kind::Binary,
-        Kind::Response => Kind::Response,
+    match part(s, at, 2) {
+        [high, low] => u16::from_be_bytes([*high, *low]),
+        _ => 0,
     }
 }
 
-fn place_or(found: Found, otherwise: usize) -> usize {
-    match found {
-        Found::At(i) => i,
-        Found::Nothing => otherwise,
-    }
+// What stands before a byte; all, where there is none.
+pub(crate) fn up_to(s: &[u8], end: u8) -> &[u8] {
+    cut_at(s, end).map_or(s, |(before, _)| before)
 }
 
 // Where the fields of an event end, in an input without what follows its line.
-fn text_end_of(line: &[u8], inner: Kind) -> usize {
-    let n = less(line.len(), 2);
-    match inner {
-        Kind::Frame => line.len(),
-        Kind::W26 => n,
-        Kind::W36 => place_or(first_crlf(part(line, 0, n), 2), n),
-        Kind::Binary => place_or(first_byte(line, 0, 1), line.len()),
-        Kind::Response => line.len(),
+fn text_end_of(line: &[u8], text: Option<TextKind>) -> usize {
+    let all = line.len();
+    let n = all.saturating_sub(2);
+    match text {
+        Some(TextKind::W26) => n,
+        Some(TextKind::W36) => first_crlf(part(line, 0, n), 2).unwrap_or(n),
+        Some(TextKind::Binary) => up_to(line, 1).len(),
+        Some(TextKind::Response) | None => all,
     }
 }
 
 // The event of a text, by its name and its type.
-fn row_in(text: &[u8], inner: Kind) -> usize {
-    let name = item(text, b':', 0);
-    let fields = part(part(text, name.len(), text.len()), 1, text.len());
-    match inner {
-        Kind::Frame => UNKNOWN,
-        Kind::W26 => row_of(name, item(fields, b',', 1), true),
-        Kind::W36 => row_of(name, b"", false),
-        Kind::Binary => row_of(name, b"", false),
-        Kind::Response => UNKNOWN,
+fn event_in(s: &[u8], text: Option<TextKind>) -> Option<Event> {
+    let (name, fields) = cut_at(s, b':').unwrap_or((s, b""));
+    match text {
+        Some(TextKind::W26) => Event::w26(name, second_field(fields)),
+        Some(TextKind::W36) | Some(TextKind::Binary) => Event::w36(name),
+        Some(TextKind::Response) | None => None,
     }
 }
 
-pub(crate) fn subject_of(s: &[u8], kind: Kind) -> Subject {
-    let framed = kind_number(kind) == 0;
-    let identifier = word_at(s, 3);
-    let inner = inner_of(kind, identifier);
-    let end = if framed { less(s.len(), 1) } else { s.len() };
-    let text_end = text_end_of(part(s, 0, end), inner);
-    let start = if framed { 7 } else { 2 };
-    Subject {
-        kind,
-        inner,
-        framed,
-        identifier,
-        end,
-        text_end,
-        row: row_in(part(part(s, 0, text_end), start, s.len()), inner),
+fn second_field(fields: &[u8]) -> &[u8] {
+    fields.split(|b| *b == b',').nth(1).unwrap_or(b"")
+}
+
+impl<'a> Subject<'a> {
+    pub(crate) fn new(input: &'a [u8], kind: Kind) -> Subject<'a> {
+        let packet = match kind {
+            Kind::Frame => Packet::with_identifier(word_at(input, 3)),
+            Kind::Text(_) => None,
+        };
+        let text = match kind {
+            Kind::Frame => packet.and_then(Packet::text),
+            Kind::Text(text) => Some(text),
+        };
+        let framing = usize::from(kind == Kind::Frame);
+        let end = input.len().saturating_sub(framing);
+        let text_end = text_end_of(part(input, 0, end), text);
+        let mut subject = Subject {
+            input,
+            kind,
+            packet,
+            text,
+            end,
+            text_end,
+            event: None,
+        };
+        subject.event = event_in(subject.event_text(), text);
+        subject
+    }
+
+    fn is_frame(self) -> bool {
+        self.kind == Kind::Frame
+    }
+
+    // The payload or the line.
+    pub(crate) fn body(self) -> &'a [u8] {
+        let start = if self.is_frame() { 5 } else { 0 };
+        part(part(self.input, 0, self.end), start, self.end)
+    }
+
+    // What stands from the name of an event on, up to the end of its fields.
+    fn event_text(self) -> &'a [u8] {
+        let start = if self.is_frame() { 7 } else { 2 };
+        part(part(self.input, 0, self.text_end), start, self.text_end)
+    }
+
+    // The name of its event.
+    pub(crate) fn name(self) -> &'a [u8] {
+        up_to(self.event_text(), b':')
+    }
+
+    // The bytes of a field of its event, counted from 1, which starts at a place. A comma ends it, but for the last field of a binary event.
+    pub(crate) fn field_from(self, i: u8, at: usize) -> &'a [u8] {
+        let rest = part(part(self.input, 0, self.text_end), at, self.text_end);
+        if self.event.is_some_and(|event| event.is_before_marker(i)) {
+            rest
+        } else {
+            up_to(rest, b',')
+        }
+    }
+
+    // The kind of a field of its event, counted from 1, where there is one.
+    pub(crate) fn kind_of(self, i: u8) -> Option<FieldKind> {
+        self.event.and_then(|event| event.kind_of(i))
+    }
+
+    // The name of a field of its event in words, counted from 1; of the event itself with 0.
+    pub(crate) fn words(self, i: u8) -> &'static str {
+        self.event.map_or("", |event| event.words(usize::from(i)))
     }
 }
