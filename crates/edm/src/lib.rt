@@ -8,6 +8,7 @@ mod payload;
 
 ghost use Rattle.std.specs.Prelude.{◌≡◌};
 ghost use Rattle.edm.specs.declared.EdmPacketError.TheVariants as of;
+ghost use Rattle.edm.specs.Refusal.{refusal_no};
 
 use at::response::ATResponse;
 use at::w26::ATEvent;
@@ -33,6 +34,27 @@ impl From<AtPacketError> for EdmPacketError {
 
     fn from(e: AtPacketError) -> EdmPacketError {
         EdmPacketError::AtPacketError(e)
+    }
+}
+
+// The number of a refusal.
+impl From<EdmPacketError> for u8 {
+    ghost from_gives = { λ e n. n ≡ refusal_no e };
+
+    fn from(e: EdmPacketError) -> u8 {
+        match e {
+            EdmPacketError::PacketDecodeFramingInvalid => 1,
+            EdmPacketError::PacketDecodeTargetMemorySizeInvalid => 2,
+            EdmPacketError::PacketTypeDecodeLengthMismatch => 3,
+            EdmPacketError::PayloadTypeUnknown => 4,
+            EdmPacketError::ConnectEventUnsupported => 5,
+            EdmPacketError::ConnectEventDecodeError => 6,
+            EdmPacketError::DisconnectEventDecodeError => 7,
+            EdmPacketError::AtRequestEventDecodeError => 8,
+            EdmPacketError::PacketEncodeTypeUnknown => 9,
+            EdmPacketError::PacketEncodePayloadSizeInvalid => 10,
+            EdmPacketError::AtPacketError(a) => u8::from(a),
+        }
     }
 }
 
