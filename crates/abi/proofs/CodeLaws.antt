@@ -2,6 +2,7 @@
 use Prim.Native.Nat.{ℕ, ◌+◌, ◌/◌, ◌%◌}
 use mathlib.Core.Path.{◌≡◌, refl, ap, ◌∙◌}
 use mathlib.Core.List.{List}
+use Rattle.std.specs.Prelude.{Result, Ok as is_ok, Err}
 use native.Mathlib.Omega.{arith}
 use Rattle.at.specs.Refusal.{Refusal, no, missing, invalid, number_of, OrRefused, good, refused}
 use Rattle.at.specs.Why.{UpToSeven}
@@ -11,35 +12,34 @@ use Rattle.at.specs.Event.{Row, Event}
 use Rattle.at.specs.Parts.{together}
 use Rattle.at.specs.declared.parts.Parts.{Parts}
 use Rattle.writer.specs.Write as lines
-use Rattle.writer.specs.declared.WriteAnswer as line
+use Rattle.writer.specs.declared.EventWriteError.{EventWriteError}
 use Rattle.at.specs.Refusal as events
 use Rattle.at.specs.declared.AtPacketError.{AtPacketError}
 use Rattle.at.specs.declared.AtPacketError.TheVariants as at
 use Rattle.edm.specs.Refusal as frames
 use Rattle.edm.specs.declared.EdmPacketError.{EdmPacketError}
 use Rattle.edm.specs.declared.EdmPacketError.TheVariants as frame
-use Rattle.edm.specs.declared.WriteAnswer.{WriteAnswer}
 use Rattle.abi.specs.Code.{field_no, reason_no, read_code, binary_code, why_no, why_code, why_binary_code, frame_base, line_base, write_code, Sends}
 use Rattle.abi.specs.Given.{line_for}
-use Rattle.abi.specs.Steps.{Gives}
-use Rattle.abi.specs.declared.given.Given.TheVariants as goal
+use Rattle.abi.specs.Steps.{row_error_no, Gives}
+use Rattle.abi.specs.declared.given.RowError.{RowError}
 use Rattle.abi.proofs.Numbers.{Known, known, Ok, Tried_ok}
 
 -- a write's number and the buffer that it leaves, from its answer
-pub sends : (b : List ℕ) (w : OrRefused (List ℕ)) {a : WriteAnswer} {r : ℕ} {e : List ℕ} → Writes b w a e → r ≡ write_code frame_base (shown a)
+pub sends : (b : List ℕ) (w : OrRefused (List ℕ)) {a : Result ℕ EdmPacketError} {r : ℕ} {e : List ℕ} → Writes b w a e → r ≡ write_code frame_base (shown a)
     → Sends frame_base b w r e
 sends b w p n = record { answers = n ∙ ap (write_code frame_base) p.answers; leaves = p.leaves }
 
 -- the same of the line of an event that was given, and of a row that is none
-pub sends_given : (rows : List Row) (room : ℕ) (src b : List ℕ) (o : OrRefused Event) (p : Parts) {a : line.WriteAnswer} {r : ℕ} {e : List ℕ} → Gives rows (goal.Event p) o
+pub sends_given : (rows : List Row) (room : ℕ) (src b : List ℕ) (o : OrRefused Event) (p : Parts) {a : Result ℕ EventWriteError} {r : ℕ} {e : List ℕ} → Gives rows (is_ok p) o
     → lines.Writes b (lines.parts_for room src (together rows p)) a e → r ≡ write_code line_base (lines.shown a) → Sends line_base b (line_for room src o) r e
 sends_given rows room src b o p g w n =
     let q : lines.Writes b (lines.parts_for room src (good g.0)) _ _ = rw g.1 at w in
     rw g.2 (record { answers = n ∙ ap (write_code line_base) q.answers; leaves = q.leaves })
 
-pub sends_none : (rows : List Row) (room : ℕ) (src b : List ℕ) (o : OrRefused Event) {n r : ℕ} → Gives rows (goal.Refused n) o → r ≡ line_base + n
+pub sends_none : (rows : List Row) (room : ℕ) (src b : List ℕ) (o : OrRefused Event) (n : RowError) {r : ℕ} → Gives rows (Err n) o → r ≡ line_base + row_error_no n
     → Sends line_base b (line_for room src o) r b
-sends_none rows room src b o g e = rw g (record { answers = e; leaves = refl })
+sends_none rows room src b o n g e = rw g (record { answers = e; leaves = refl })
 
 -- the lowest byte of the number that says why is the number of the refusal
 pub refusal_lowest : (n : Refusal) → Known (number_of n) → why_no n % 256 ≡ number_of n

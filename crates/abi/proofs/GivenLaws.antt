@@ -24,7 +24,10 @@ use Rattle.at.proofs.TableTests.{roomy-w26, legible-w26, roomy-w36}
 use Rattle.at.specs.declared.parts.Value as part
 use Rattle.abi.specs.Given.{number, width, value_at, values_at, all_hold, value_kinds, event_in}
 use Rattle.abi.specs.Steps.{Gives, kinds_for, seven_at_most, Few}
-use Rattle.abi.specs.declared.given.Given as goal
+use Rattle.std.specs.Prelude.{Result, Ok, Err}
+use Rattle.at.specs.declared.parts.Parts.{Parts}
+use Rattle.abi.specs.declared.given.RowError.{RowError}
+use Rattle.abi.specs.declared.given.RowError.TheVariants.{Invalid}
 
 -- One value
 
@@ -112,6 +115,19 @@ set-taken (q ∷ ps) (v ∷ vs) (suc i) p l m h e zero = h zero
 set-taken (q ∷ ps) (v ∷ vs) (suc i) p l m h e (suc j) =
     set-taken ps vs i p (le_of_suc-le-suc l) (le_of_suc-le-suc m) (λ j. h (suc j)) e j
 
+-- a list of seven is its seven elements
+sevenths : (ps : List part.Value) (z : part.Value) → length ps ≡ 7
+    → ps ≡ get_or ps 0 z ∷ get_or ps 1 z ∷ get_or ps 2 z ∷ get_or ps 3 z ∷ get_or ps 4 z ∷ get_or ps 5 z ∷ get_or ps 6 z ∷ []
+sevenths [] z h = absurd (omega arith)
+sevenths (a ∷ []) z h = absurd (omega arith)
+sevenths (a ∷ b ∷ []) z h = absurd (omega arith)
+sevenths (a ∷ b ∷ c ∷ []) z h = absurd (omega arith)
+sevenths (a ∷ b ∷ c ∷ d ∷ []) z h = absurd (omega arith)
+sevenths (a ∷ b ∷ c ∷ d ∷ e ∷ []) z h = absurd (omega arith)
+sevenths (a ∷ b ∷ c ∷ d ∷ e ∷ f ∷ []) z h = absurd (omega arith)
+sevenths (a ∷ b ∷ c ∷ d ∷ e ∷ f ∷ g ∷ []) z h = refl
+sevenths (a ∷ b ∷ c ∷ d ∷ e ∷ f ∷ g ∷ k ∷ ps) z h = absurd (omega arith)
+
 -- what is known after i values, the next of which stands at a place
 pub record Taking (ks : List Kind) (row : List ℕ) (ps : List part.Value) (at i : ℕ) : Type 0 where
   pub near : at ≤ 2 + 2 * i
@@ -165,8 +181,13 @@ module _ (ks : List Kind) (row : List ℕ) where
     unfolding all_hold
     taking_fits h = t.fit_so_far ∙ rw (drop_of_length-le ks {i = i} h)
 
-    pub taking_done : length ks ≤ i → (j : ℕ) → get_or ps j (part.TheVariants.Number 0) ≡ part_no (values_at ks row 2) j
+    taking_done : length ks ≤ i → (j : ℕ) → get_or ps j (part.TheVariants.Number 0) ≡ part_no (values_at ks row 2) j
     taking_done h j = rw (take_all i (values_at ks row 2) (omega (arith, values_length ks row 2))) at (t.kept j)
+
+    pub taking_whole : length ks ≤ i → ps ≡ (parts_of 0 (values_at ks row 2)).values
+    taking_whole h =
+        let k = taking_done h in
+        sevenths ps (part.TheVariants.Number 0) t.seven ∙ rw (k 0, k 1, k 2, k 3, k 4, k 5, k 6)
 
 -- The event of a row
 
@@ -243,8 +264,8 @@ found texts rows s i letters f h l =
         }
 
 -- what is given is the event in the row
-pub gives : (texts : ℕ) (rows : List Row) (row letters : List ℕ) (count : ℕ) {g : goal.Given} → Found texts rows letters (number row 1) count → 17 ≤ length row → number row 0 ≡ 0
-    → g ≡ cond (all_hold (kinds_for letters count) row 2) (goal.TheVariants.Event (parts_of (number row 1) (values_at (kinds_for letters count) row 2))) (goal.TheVariants.Refused 253)
+pub gives : (texts : ℕ) (rows : List Row) (row letters : List ℕ) (count : ℕ) {g : Result Parts RowError} → Found texts rows letters (number row 1) count → 17 ≤ length row → number row 0 ≡ 0
+    → g ≡ cond (all_hold (kinds_for letters count) row 2) (Ok (parts_of (number row 1) (values_at (kinds_for letters count) row 2))) (Err Invalid)
     → Gives rows g (event_in texts rows row)
 unfolding event_in
 gives texts rows row letters count f long begins e =
@@ -257,7 +278,7 @@ gives texts rows row letters count f long begins e =
     small = omega (arith, values_length (kinds_for letters count) row 2, kinds-length letters count f.enough, f.few)
 
     go : (b : Bool)
-        → Gives rows (cond b (goal.TheVariants.Event (parts_of (number row 1) vs)) (goal.TheVariants.Refused 253)) (cond b (good (event f.it vs)) (refused (no 253)))
+        → Gives rows (cond b (Ok (parts_of (number row 1) vs)) (Err Invalid)) (cond b (good (event f.it vs)) (refused (no 253)))
     go true = (event f.it vs, rw (f.there, values_of_parts (number row 1) vs small), refl)
     go false = refl
 

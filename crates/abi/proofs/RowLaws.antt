@@ -1,18 +1,21 @@
 -- Laws of a row that an answer is put into: numbers that are stored one after the other, and the promise of a read. Assumes nothing.
-use Prim.Native.Nat.{ℕ, zero, suc, ◌+◌, ◌≤◌, ◌<◌}
-use mathlib.Core.Path.{◌≡◌, sym, ap, ◌∙◌}
-use mathlib.Core.Bool.{true}
-use mathlib.Core.List.{List, [], ◌∷◌, ◌++◌, append-nil, append_assoc}
+use Prim.Native.Nat.{ℕ, zero, suc, ◌+◌, ◌-◌, ◌≤◌, ◌<◌, min}
+use mathlib.Core.Path.{◌≡◌, refl, sym, ap, ◌∙◌}
+use mathlib.Core.Bool.{Bool, true, false}
+use borrow.Rule.Slice.PartMut.{put_mid}
+use mathlib.Core.List.{List, [], ◌∷◌, ◌++◌, map, append-nil, append_assoc}
 use native.Mathlib.Omega.{arith}
-use lib.ListN.{length, take, set, get_or, length-append, length-take, length-set, take-append-drop}
-use lib.Seq.{sets, sets-eq}
-use borrow.Author.Tests.{lt-ltb, le-ltb}
+use lib.ListN.{length, take, drop, set, get_or, length-append, length-take, length-map, length-set, take-append-drop}
+use Rattle.std.proofs.lemmas.List.{take-map}
+use lib.Dec.{leb}
+use lib.Seq.{take_all, sets, sets-eq, drop-drop}
+use borrow.Author.Tests.{lt-ltb, le-ltb, leb-true, leb-false}
 use Rattle.text.specs.Put.{placed}
 use Rattle.text.specs.Put.{after}
 use Rattle.text.proofs.PutLaws.{room}
 use Rattle.text.proofs.PutAppend.{placed-length, after_append}
 use Rattle.at.specs.Event.{Row, Value, num, place, Event, event}
-use Rattle.at.specs.Parts.{values_of, Apart}
+use Rattle.at.specs.Parts.{value_of, values_of, Apart}
 use Rattle.at.specs.Response.{Response, ok, other, error}
 use Rattle.at.proofs.PartsLaws.{firsts, taken, row_number}
 use Rattle.at.specs.declared.parts.Parts.{Parts}
@@ -111,8 +114,28 @@ same-packet p q d exit e f = f ∙ ap (λ (x : EdmPacket). over d (0 ∷ packet_
 few : (n : ℕ) (vs : List Value) → length vs ≤ 7 → length (take n vs) ≤ 7
 few n vs h = omega (arith, length-take n vs)
 
-pub at-most-seven : (p : Parts) → length (values_of p) ≤ 7
-at-most-seven p = few p.count _ (omega arith)
+pub at-most-seven : (p : Parts) → length p.values ≡ 7 → length (values_of p) ≤ 7
+at-most-seven p h = few p.count (map value_of p.values) (omega (arith, length-map p.values value_of))
+
+-- the values of parts, as they are held
+pub values_held : (p : Parts) (n : ℕ) → n ≡ length (values_of p) → map value_of (take n p.values) ≡ values_of p
+values_held p n e =
+    let xs = map value_of p.values in
+    sym (take-map value_of n p.values) ∙ shorter p.count n xs (e ∙ length-take p.count xs)
+  where
+    shorter : (k m : ℕ) (xs : List Value) → m ≡ min k (length xs) → take m xs ≡ take k xs
+    shorter k m xs e = go (leb k (length xs)) refl
+      where
+        go : (b : Bool) → leb k (length xs) ≡ b → take m xs ≡ take k xs
+        go true t = let f : m ≡ k = omega (arith, leb-true k (length xs) t) in rw f
+        go false t =
+            let f : length xs < k = leb-false k (length xs) t in
+            take_all m xs (omega arith) ∙ sym (take_all k xs (omega arith))
+
+-- a part that is copied over is placed
+pub put_part : (d held vs : List ℕ) (at n : ℕ) → held ≡ vs → length vs ≡ n → put_mid at (at + n - at) d held ≡ placed d at vs
+unfolding placed
+put_part d held vs at n e l = let z : at + n - at ≡ length vs = omega arith in rw (e, z, drop-drop (length vs) at d) (sym (append_assoc (take at d) vs (drop (at + length vs) d)))
 
 -- a row that is long enough, and one that is too short
 pub handed_long : (row answer : List ℕ) → 17 ≤ length row → handed row answer ≡ over row answer

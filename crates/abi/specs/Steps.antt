@@ -1,5 +1,5 @@
 -- What the private answers of the code say in the definitions' terms. No promise of a public function cites this file.
-use Rattle.std.specs.Prelude.{ℕ, suc, ◌+◌, ◌≤◌, ◌≡◌, List, [], ◌∷◌, ◌++◌, Bool, true, ◌&&◌, leb, length, take}
+use Rattle.std.specs.Prelude.{ℕ, suc, ◌+◌, ◌≤◌, ◌≡◌, List, [], ◌∷◌, ◌++◌, Bool, true, ◌&&◌, leb, length, take, Result, Ok, Err}
 use Rattle.text.specs.Put.{placed}
 use Rattle.at.specs.Refusal.{OrRefused, good, refused, no}
 use Rattle.at.specs.Event.{Kind, text, Row, Event}
@@ -8,17 +8,23 @@ use Rattle.at.specs.TableSteps.{Tabled}
 use Rattle.at.specs.Steps.{kinds_in, Legible}
 use Rattle.abi.specs.Given.{value_kinds}
 use Rattle.edm.specs.declared.EdmPacket.{EdmPacket}
-use Rattle.abi.specs.declared.given.Given as given
-use Rattle.abi.specs.declared.packet.Command as packet
+use Rattle.at.specs.declared.parts.Parts.{Parts}
+use Rattle.abi.specs.declared.given.RowError.{RowError}
+use Rattle.abi.specs.declared.given.RowError.TheVariants as error
 
--- what was given: the parts of an event, or the number of the refusal
-abbrev pub Gives : List Row → given.Given → OrRefused Event → Type 0
-Gives rows (given.TheVariants.Event p) o = (e : Event) × (together rows p ≡ good e) × (o ≡ good e)
-Gives rows (given.TheVariants.Refused n) o = o ≡ refused (no n)
+-- the number of the refusal of a row
+abbrev pub row_error_no : RowError → ℕ
+row_error_no error.TooShort = 254
+row_error_no error.Invalid = 253
 
-abbrev pub packet_of : packet.Command → OrRefused EdmPacket
-packet_of (packet.TheVariants.Packet p) = good p
-packet_of (packet.TheVariants.Refused n) = refused (no n)
+-- what was given: the parts of an event, or the refusal
+abbrev pub Gives : List Row → Result Parts RowError → OrRefused Event → Type 0
+Gives rows (Ok p) o = (e : Event) × (together rows p ≡ good e) × (o ≡ good e)
+Gives rows (Err e) o = o ≡ refused (no (row_error_no e))
+
+abbrev pub packet_of : Result EdmPacket RowError → OrRefused EdmPacket
+packet_of (Ok p) = good p
+packet_of (Err e) = refused (no (row_error_no e))
 
 -- the kinds of so many values, by the letters of the fields
 abbrev pub kinds_for : List ℕ → ℕ → List Kind

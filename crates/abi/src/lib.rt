@@ -23,8 +23,7 @@ ghost use Rattle.abi.specs.Code.{read_code, binary_code, why_code, why_binary_co
 
 use crate::read::{binary_into, frame_into, w26_into, w36_into};
 use crate::refusal::{of_at, of_frame, plain};
-use at::response::ResponseAnswer;
-use edm::{Channel, WriteAnswer};
+use edm::{Channel, EdmPacketError};
 
 // The version of these calls. Its number is in its name, so that a program that was made for another version does not link.
 #[unsafe(no_mangle)]
@@ -34,12 +33,12 @@ pub extern "C" fn mirvoncle_version_2() -> u32
     2
 }
 
-pub(crate) fn written(a: WriteAnswer) -> usize
+pub(crate) fn written(a: Result<usize, EdmPacketError>) -> usize
     ensures { result ≡ write_code frame_base (shown a) }
 {
     match a {
-        WriteAnswer::Wrote(n) => n,
-        WriteAnswer::Refused(e) => 65536 + plain(of_frame(e)) as usize,
+        Ok(n) => n,
+        Err(e) => 65536 + usize::from(plain(of_frame(e))),
     }
 }
 
@@ -109,8 +108,8 @@ pub extern "C" fn mirvoncle_response(s: &[u8]) -> u8
     ensures { result ≡ read_code (read_response 0 s.now) }
 {
     match at::response::read(s, 0) {
-        ResponseAnswer::Response(_) => 0,
-        ResponseAnswer::Refused(e) => plain(of_at(e)),
+        Ok(_) => 0,
+        Err(e) => plain(of_at(e)),
     }
 }
 

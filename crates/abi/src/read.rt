@@ -18,10 +18,8 @@ ghost use Rattle.abi.specs.Row.{read_numbers, response_numbers, packet_numbers, 
 use crate::packet::put_packet;
 use crate::refusal::{of_at, of_frame, plain};
 use crate::row::{alone, event_to, put_response, put_w26, put_w36, refuse};
-use at::response::ResponseAnswer;
-use at::w36::BinaryAnswer;
 use at::{w26, w36};
-use edm::{EdmPacket, FrameAnswer};
+use edm::EdmPacket;
 
 fn hand_number(row: &mut [u64], n: u8)
     ensures { row.new ≡ handed row.old (n ∷ []) }
@@ -69,11 +67,11 @@ pub(crate) fn frame_into(s: &[u8], row: &mut [u64]) -> u32
     ensures { (result ≡ why_code (read_frame s.now)) × (row.new ≡ handed row.old (encode packet_numbers (read_frame s.now))) }
 {
     match edm::frame::read(s) {
-        FrameAnswer::Packet(p) => {
+        Ok(p) => {
             hand_packet(row, p);
             0
         }
-        FrameAnswer::Refused(e) => {
+        Err(e) => {
             let why = of_frame(e);
             hand_refusal(row, why);
             why
@@ -85,11 +83,11 @@ pub(crate) fn w26_into(s: &[u8], row: &mut [u64]) -> u32
     ensures { (result ≡ why_code (read_line of26.w26 0 s.now)) × (row.new ≡ handed row.old (encode (read_numbers of26.table) (read_line of26.w26 0 s.now))) }
 {
     match w26::read(s, 0) {
-        w26::EventAnswer::Event { event, past } => {
-            hand_w26(row, event, past);
+        Ok(read) => {
+            hand_w26(row, read.event, read.past);
             0
         }
-        w26::EventAnswer::Refused(e) => {
+        Err(e) => {
             let why = of_at(e);
             hand_refusal(row, why);
             why
@@ -102,11 +100,11 @@ pub(crate) fn w36_into(s: &[u8], at: usize, row: &mut [u64]) -> u32
     ensures { (result ≡ why_code (read_line of36.w36 at (drop at s.now))) × (row.new ≡ handed row.old (encode (read_numbers of36.rows36) (read_line of36.w36 at (drop at s.now)))) }
 {
     match w36::read(s, at) {
-        w36::EventAnswer::Event { event, past } => {
-            hand_w36(row, event, past);
+        Ok(read) => {
+            hand_w36(row, read.event, read.past);
             0
         }
-        w36::EventAnswer::Refused(e) => {
+        Err(e) => {
             let why = of_at(e);
             hand_refusal(row, why);
             why
@@ -119,15 +117,15 @@ pub(crate) fn binary_into(s: &[u8], at: usize, row: &mut [u64]) -> u32
     ensures { (result ≡ why_binary_code (try_rows of36.binary_table at (drop at s.now))) × (row.new ≡ handed row.old (encode_tried (try_rows of36.binary_table at (drop at s.now)))) }
 {
     match w36::try_parse_binary(s, at) {
-        BinaryAnswer::Event { event, past } => {
-            hand_w36(row, event, past);
+        Ok(Some(read)) => {
+            hand_w36(row, read.event, read.past);
             0
         }
-        BinaryAnswer::NotBinary => {
+        Ok(None) => {
             hand_number(row, 255);
             255
         }
-        BinaryAnswer::Refused(e) => {
+        Err(e) => {
             let why = of_at(e);
             hand_refusal(row, why);
             why
@@ -214,11 +212,11 @@ pub extern "C" fn mirvoncle_read_response(s: &[u8], row: &mut [u64]) -> u8
         return 254;
     }
     match at::response::read(s, 0) {
-        ResponseAnswer::Response(a) => {
+        Ok(a) => {
             row[0] = 0;
             put_response(row, 1, a);
             0
         }
-        ResponseAnswer::Refused(e) => refuse(row, of_at(e)),
+        Err(e) => refuse(row, of_at(e)),
     }
 }

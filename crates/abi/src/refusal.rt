@@ -28,9 +28,9 @@ pub(crate) fn of_at(e: AtPacketError) -> u32
         AtPacketError::Utf8DecodeFailed => 11,
         AtPacketError::FramingDecodeFailed => 12,
         AtPacketError::TypeDecodeUnsupported => 13,
-        AtPacketError::TypeDecodeParameterMissing { field } => 14 + 256 * field as u32,
+        AtPacketError::TypeDecodeParameterMissing { field } => 14 + 256 * u32::from(field),
         AtPacketError::TypeDecodeParameterDataTypeInvalid { field, why } => {
-            15 + (256 * field as u32 + 65536 * reason(why))
+            15 + (256 * u32::from(field) + 65536 * reason(why))
         }
         AtPacketError::EventUnknown => 16,
     }

@@ -1,16 +1,25 @@
 // Answers put into a lent row of numbers, which has room for the longest.
-ghost use Rattle.std.specs.Prelude.{◌≡◌, [], ◌∷◌, ◌+◌, ◌≤◌, ◌<◌, ◌/◌, ◌%◌, length, set};
+ghost use Rattle.std.specs.Prelude.{◌≡◌, [], ◌∷◌, ◌+◌, ◌≤◌, ◌<◌, ◌/◌, ◌%◌, length, map, set};
 ghost use Rattle.text.specs.Put.{placed};
-ghost use Rattle.at.specs.Parts.{value_of, values_of};
+ghost use Rattle.at.specs.Parts.{value_of};
 ghost use Rattle.at.specs.Response.{response_of};
 ghost use Rattle.at.specs.W26 as of26;
 ghost use Rattle.at.specs.W36 as of36;
 ghost use Rattle.abi.specs.Row.{value_numbers, values_numbers, event_numbers, response_numbers, over};
 ghost use Rattle.abi.specs.Steps.{Puts};
 
-use at::parts::{Parts, Value, value_at, value_count};
+use crate::refusal::plain;
+use at::parts::{Parts, Value};
 use at::response::ATResponse;
-use at::{w26, w26_parts, w36};
+use at::{w26, w36};
+
+// Numbers at a place.
+pub(crate) fn put<const N: usize>(row: &mut [u64], at: usize, numbers: [u64; N])
+    requires { at + N ≤ length row.old }
+    ensures { row.new ≡ placed row.old at numbers.entry }
+{
+    row[at..at + N].copy_from_slice(&numbers);
+}
 
 // A value at a place; the place after it.
 fn put_value(row: &mut [u64], at: usize, v: Value) -> usize
@@ -19,29 +28,27 @@ fn put_value(row: &mut [u64], at: usize, v: Value) -> usize
 {
     match v {
         Value::Number(n) => {
-            row[at] = n as u64;
+            put(row, at, [u64::from(n)]);
             at + 1
         }
         Value::Place(t) => {
-            row[at] = t.start as u64;
-            row[at + 1] = t.len as u64;
+            put(row, at, [t.start as u64, t.len as u64]);
             at + 2
         }
     }
 }
 
-// An event in parts, from a place on: the number of its row, and its values. The place after them.
-fn put_event(row: &mut [u64], at: usize, p: Parts) -> usize
-    requires { at + 15 ≤ length row.old }
-    ensures { Puts row.old at (p.row ∷ values_numbers (values_of p)) result row.new }
+// An event from a place on: the number of its row, and its values. The place after them. The values are lent, since each copy of an event in parts
+// takes 184 bytes of stack; and a call of its own, so that the compiler leaves them where they are.
+#[inline(never)]
+fn put_event(row: &mut [u64], at: usize, number: usize, values: &[Value]) -> usize
+    requires { (at + 15 ≤ length row.old) × (length values.now ≤ 7) }
+    ensures { Puts row.old at (number ∷ values_numbers (map value_of values.now)) result row.new }
 {
-    row[at] = p.row as u64;
-    let n = value_count(p);
+    row[at] = number as u64;
     let mut to = at + 1;
-    let mut i = 0;
-    while i < n {
-        to = put_value(row, to, value_at(p, i));
-        i += 1;
+    for value in values {
+        to = put_value(row, to, *value);
     }
     to
 }
@@ -51,14 +58,16 @@ pub(crate) fn put_w26(row: &mut [u64], at: usize, e: w26::ATEvent) -> usize
     requires { at + 15 ≤ length row.old }
     ensures { Puts row.old at (event_numbers of26.table (of26.event_of e)) result row.new }
 {
-    put_event(row, at, w26_parts::parts(e))
+    let p = Parts::from(e);
+    put_event(row, at, p.row, &p.values[..p.value_count()])
 }
 
 pub(crate) fn put_w36(row: &mut [u64], at: usize, e: w36::ATEvent) -> usize
     requires { at + 15 ≤ length row.old }
     ensures { Puts row.old at (event_numbers of36.rows36 (of36.event_of e)) result row.new }
 {
-    put_event(row, at, w36::parts(e))
+    let p = Parts::from(e);
+    put_event(row, at, p.row, &p.values[..p.value_count()])
 }
 
 // The 0 before an event, and the place just past it after its numbers.
@@ -76,10 +85,16 @@ pub(crate) fn refuse(row: &mut [u64], why: u32) -> u8
     requires { 17 ≤ length row.old }
     ensures { (result ≡ why % 256) × (row.new ≡ over row.old (why % 256 ∷ why / 256 % 256 ∷ why / 65536 ∷ [])) }
 {
-    row[0] = (why % 256) as u64;
-    row[1] = (why / 256 % 256) as u64;
-    row[2] = (why / 65536) as u64;
-    (why % 256) as u8
+    put(
+        row,
+        0,
+        [
+            u64::from(why % 256),
+            u64::from(why / 256 % 256),
+            u64::from(why / 65536),
+        ],
+    );
+    plain(why)
 }
 
 // A number alone.
@@ -87,7 +102,7 @@ pub(crate) fn alone(row: &mut [u64], n: u8) -> u8
     requires { 17 ≤ length row.old }
     ensures { (result ≡ n) × (row.new ≡ over row.old (n ∷ [])) }
 {
-    row[0] = n as u64;
+    put(row, 0, [u64::from(n)]);
     n
 }
 
@@ -97,18 +112,8 @@ pub(crate) fn put_response(row: &mut [u64], at: usize, a: ATResponse)
     ensures { row.new ≡ placed row.old at (response_numbers (response_of a)) }
 {
     match a {
-        ATResponse::Ok(t) => {
-            row[at] = 0;
-            row[at + 1] = t.start as u64;
-            row[at + 2] = t.len as u64;
-        }
-        ATResponse::Error => {
-            row[at] = 1;
-        }
-        ATResponse::Other(t) => {
-            row[at] = 2;
-            row[at + 1] = t.start as u64;
-            row[at + 2] = t.len as u64;
-        }
+        ATResponse::Ok(t) => put(row, at, [0, t.start as u64, t.len as u64]),
+        ATResponse::Error => put(row, at, [1]),
+        ATResponse::Other(t) => put(row, at, [2, t.start as u64, t.len as u64]),
     }
 }

@@ -3,8 +3,8 @@ use Rattle.abi.proofs.CodeLaws.{refusal_lowest, at_known}
 use Rattle.abi.proofs.mirvoncle_response.Goals as goal
 
 -- `mirvoncle_response` meets its contract by that of `at::response::read`. Assumes nothing.
-pub returns-in-Response : goal.returns-in-Response
-returns-in-Response c = rw (← c.read.ensures, c.in-Response.is)
+pub returns-in-Ok : goal.returns-in-Ok
+returns-in-Ok c = rw (← c.read.ensures, c.in-Ok.is)
 
-pub returns-in-Refused : goal.returns-in-Refused
-returns-in-Refused c = let e = c.in-Refused.e in rw (← c.read.ensures, c.in-Refused.is, c.plain.ensures, c.of_at.ensures) (refusal_lowest (refusal_of e) (at_known e))
+pub returns-in-Err : goal.returns-in-Err
+returns-in-Err c = let e = c.in-Err.e in rw (← c.read.ensures, c.in-Err.is, c.plain.ensures, c.of_at.ensures) (refusal_lowest (refusal_of e) (at_known e))

@@ -3,10 +3,6 @@ use Rattle.at.specs.Steps.{kind_of}
 use Rattle.abi.proofs.given.fits.Goals as goal
 
 -- `given::fits` meets its contract. Assumes nothing.
-pub returns-then-n-eq1 : goal.returns-then-n-eq1
-unfolding kind_of
-returns-then-n-eq1 c = rw (c.in-112.is, eq-eqb _ 1 c.if-n-eq1.true)
-
 pub returns-in-98 : goal.returns-in-98
 unfolding kind_of
 returns-in-98 c = rw c.in-98.is
@@ -31,13 +27,9 @@ pub returns-in-116 : goal.returns-in-116
 unfolding kind_of
 returns-in-116 c = rw c.in-116.is
 
-pub returns-then-n-eq2-2 : goal.returns-then-n-eq2-2
+pub returns-in-112 : goal.returns-in-112
 unfolding kind_of
-returns-then-n-eq2-2 c = rw (c.in-112.is, ne_eqb _ 1 c.if-n-eq1.false, eq-eqb _ 2 c.if-n-eq2-2.true)
-
-pub returns-else-n-eq2-2 : goal.returns-else-n-eq2-2
-unfolding kind_of
-returns-else-n-eq2-2 c = rw (c.in-112.is, ne_eqb _ 1 c.if-n-eq1.false, ne_eqb _ 2 c.if-n-eq2-2.false)
+returns-in-112 c = rw c.in-112.is c.is_protocol.ensures
 
 pub returns-in-114 : goal.returns-in-114
 unfolding kind_of

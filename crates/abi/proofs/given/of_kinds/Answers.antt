@@ -1,10 +1,10 @@
-use Prim.Native.Nat.{◌≤◌, ◌<◌, ◌-◌}
+use Prim.Native.Nat.{◌≤◌, ◌<◌}
 use mathlib.Core.Path.{sym, ◌∙◌}
 use native.Mathlib.Omega.{arith}
 use lib.ListN.{length}
 use Rattle.at.specs.Steps.{kind_of}
 use Rattle.abi.specs.Steps.{kinds_for}
-use Rattle.abi.proofs.GivenLaws.{kinds-length, kind_in, width-most, values_length, Taking, taking_none, taking_next, taking_stopped, taking_fits, taking_done}
+use Rattle.abi.proofs.GivenLaws.{kinds-length, kind_in, width-most, values_length, taking_none, taking_next, taking_stopped, taking_fits, taking_whole}
 use Rattle.abi.proofs.given.of_kinds.Goals as goal
 
 pub loop-i-init : goal.loop-i-init
@@ -61,5 +61,4 @@ returns c =
     let ks = kinds_for c.args.kinds.now c.args.count in
     let n = kinds-length c.args.kinds.now c.args.count c.requires.1 in
     let all : length ks ≤ l.i = omega (arith, n, c.loop-i-test.false) in
-    let k = taking_done ks row l.values l.at l.i l.invariant.1 all in
-    rw (taking_fits ks row l.values l.at l.i l.invariant.1 all, k 0, k 1, k 2, k 3, k 4, k 5, k 6, values_length ks row 2, n)
+    rw (taking_fits ks row l.values l.at l.i l.invariant.1 all, taking_whole ks row l.values l.at l.i l.invariant.1 all, values_length ks row 2, n)

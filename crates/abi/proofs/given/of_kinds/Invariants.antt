@@ -1,10 +1,6 @@
-use Prim.Native.Nat.{◌≤◌, ◌<◌, ◌-◌}
-use mathlib.Core.Path.{sym, ◌∙◌}
-use native.Mathlib.Omega.{arith}
-use lib.ListN.{length}
-use Rattle.at.specs.Steps.{kind_of}
+use Prim.Native.Nat.{◌≤◌, ◌-◌}
 use Rattle.abi.specs.Steps.{kinds_for}
-use Rattle.abi.proofs.GivenLaws.{kinds-length, kind_in, width-most, values_length, Taking, taking_none, taking_next, taking_stopped, taking_fits, taking_done}
+use Rattle.abi.proofs.GivenLaws.{Taking}
 use Rattle.abi.proofs.given.of_kinds.Given as goal
 
 -- `given::of_kinds` meets its contract: the values are taken from left to right, as far as they fit. Assumes nothing.

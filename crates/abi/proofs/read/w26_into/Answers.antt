@@ -11,16 +11,16 @@ use Rattle.at.proofs.TableTests.{roomy-w26}
 use Rattle.abi.proofs.read.w26_into.Goals as goal
 
 -- `read::w26_into` meets its contract. Assumes nothing.
-pub returns-in-Event : goal.returns-in-Event
-returns-in-Event c =
+pub returns-in-Ok : goal.returns-in-Ok
+returns-in-Ok c =
     let s = c.args.s.now in
-    answered (read_numbers table) (read_line w26 0 s) (good (event_to (event_of c.in-Event.event) c.in-Event.past)) 0 c.args.row.now _ (sym c.read.ensures ∙ ap shown c.in-Event.is) (refl, c.hand_w26.ensures)
+    answered (read_numbers table) (read_line w26 0 s) (good (event_to (event_of c.in-Ok.read.event) c.in-Ok.read.past)) 0 c.args.row.now _ (sym c.read.ensures ∙ ap shown c.in-Ok.is) (refl, c.hand_w26.ensures)
 
-pub returns-in-Refused : goal.returns-in-Refused
-returns-in-Refused c =
+pub returns-in-Err : goal.returns-in-Err
+returns-in-Err c =
     let s = c.args.s.now in
-    let e = c.in-Refused.e in
-    let o : read_line w26 0 s ≡ refused (refusal_of e) = sym c.read.ensures ∙ ap shown c.in-Refused.is in
+    let e = c.in-Err.e in
+    let o : read_line w26 0 s ≡ refused (refusal_of e) = sym c.read.ensures ∙ ap shown c.in-Err.is in
     let why = c.of_at-why.ensures in
     let row = c.args.row.now in
     let numbers = refusal_numbers_lem (refusal_of e) _ (at_known e) (rw o at (line_seven w26 0 s roomy-w26.0)) why in

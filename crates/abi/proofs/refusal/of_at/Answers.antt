@@ -15,7 +15,7 @@ pub returns-in-TypeDecodeParameterMissing : goal.returns-in-TypeDecodeParameterM
 returns-in-TypeDecodeParameterMissing c = rw c.in-TypeDecodeParameterMissing.is (omega arith)
 
 pub returns-in-TypeDecodeParameterDataTypeInvalid : goal.returns-in-TypeDecodeParameterDataTypeInvalid
-returns-in-TypeDecodeParameterDataTypeInvalid c = rw (c.in-TypeDecodeParameterDataTypeInvalid.is, c.reason.ensures.0)
+returns-in-TypeDecodeParameterDataTypeInvalid c = rw c.in-TypeDecodeParameterDataTypeInvalid.is (omega (arith, c.reason.ensures.0))
 
 pub returns-in-EventUnknown : goal.returns-in-EventUnknown
 returns-in-EventUnknown c = rw c.in-EventUnknown.is
