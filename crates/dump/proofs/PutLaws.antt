@@ -10,7 +10,10 @@ use Rattle.pcap.specs.Write.{record_out, wrote, refusal, outcome, after, Writes}
 use Rattle.pcap.specs.Write as write
 use Rattle.pcap.specs.declared.ByteOrder.TheVariants.{Little}
 use Rattle.pcap.specs.declared.CaptureError.{CaptureError}
-use Rattle.pcap.specs.declared.WriteAnswer.TheVariants as answer
+use Rattle.std.specs.Prelude.{Result, Ok, Err, is_err}
+use Rattle.edm.specs.Packet.{shown}
+use Rattle.edm.specs.declared.EdmPacket.{EdmPacket}
+use Rattle.edm.specs.declared.EdmPacketError.{EdmPacketError}
 use Rattle.pcap.proofs.WriteLaws.{head_list_lem, record_wrong, record_fits}
 use Rattle.pcap.proofs.WrittenRead.{record_length}
 use Rattle.render.specs.Frame.{frame_line}
@@ -18,7 +21,7 @@ use Rattle.render.specs.Range.{range_line}
 use Rattle.render.specs.Capture.{one_digit}
 use Rattle.render.proofs.WordLengths.{decimal-within}
 use Rattle.render.proofs.RangeRoom.{range_room, meaning_room}
-use Rattle.dump.specs.Total.{hundredths, percent_line, frames_line, total_line}
+use Rattle.dump.specs.Total.{refuses, hundredths, percent_line, frames_line, total_line}
 use Rattle.dump.specs.Put.{record_at, kept_bytes, skipped_bytes, total_bytes}
 use Rattle.dump.specs.declared.total.Totals.{Totals}
 use Rattle.dump.specs.declared.put.Form.{Form}
@@ -35,7 +38,7 @@ module _ (place : ℕ) (f buf exit : List ℕ) (room : length buf ≡ 4115) wher
   fits : length f ≤ 4099 → record_out (length buf) seconds microseconds f ≡ write.bytes (record_bytes Little seconds microseconds f)
   fits k = record_fits (length buf) seconds microseconds f (omega arith) k (omega arith) ∙ ap (λ (s : List ℕ). write.bytes (s ++ f)) (sym (head_list_lem seconds microseconds (length f)))
 
-  pub record_put : (n : ℕ) → Writes buf (record_out (length buf) seconds microseconds f) (answer.Wrote n) exit → part exit 0 n ≡ record_at place f
+  pub record_put : (n : ℕ) → Writes buf (record_out (length buf) seconds microseconds f) (Ok n) exit → part exit 0 n ≡ record_at place f
   unfolding record_at part
   record_put n w = go (leb (length f) 4099) refl
     where
@@ -51,7 +54,7 @@ module _ (place : ℕ) (f buf exit : List ℕ) (room : length buf ≡ 4115) wher
           let a : wrote n ≡ refusal 20 = w.answers ∙ ap outcome x in
           absurd (let z : ◌≡◌ {A = ℕ} 0 1 = cc in omega arith)
 
-  pub record_unput : (e : CaptureError) → Writes buf (record_out (length buf) seconds microseconds f) (answer.Refused e) exit → record_at place f ≡ []
+  pub record_unput : (e : CaptureError) → Writes buf (record_out (length buf) seconds microseconds f) (Err e) exit → record_at place f ≡ []
   unfolding record_at
   record_unput x w = go (leb (length f) 4099) refl
     where
@@ -156,3 +159,8 @@ unfolding total_bytes
 end-room form.Lines end len t k r s h l =
     omega (arith, length-append (skipped_bytes form.Lines end len) (total_line t end), skipped_room form.Lines end len (omega arith) (omega arith), total_room t end k r s h)
 end-room form.Capture end len t k r s h l = omega (arith, length-append (skipped_bytes form.Capture end len) [], skipped_room form.Capture end len (omega arith) (omega arith))
+
+-- what the reader refuses
+pub err-refuses : (r : Result EdmPacket EdmPacketError) → is_err r ≡ refuses (shown r)
+err-refuses (Ok p) = refl
+err-refuses (Err e) = refl

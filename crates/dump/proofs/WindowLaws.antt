@@ -8,7 +8,7 @@ use Rattle.scan.specs.Scan.{refusal_no, ranges, refusal, outcome, Scans}
 use Rattle.scan.specs.Listed.{listed_at}
 use Rattle.scan.specs.Window.{decided_bytes}
 use Rattle.scan.specs.declared.ScanError.{ScanError}
-use Rattle.scan.specs.declared.ScanAnswer.TheVariants as answer
+use Rattle.std.specs.Prelude.{Ok, Err}
 use Rattle.scan.specs.declared.listed.Listed.{Listed}
 use Rattle.scan.proofs.ScanLaws.{scanned-listed, scan_listed}
 use Rattle.scan.proofs.Room.{enough}
@@ -16,13 +16,13 @@ use Rattle.scan.proofs.Rows.{row_at, row-run}
 use Rattle.dump.specs.Window.{Lists}
 
 -- what `scan` has listed
-pub scan_lists : (dump list exit : List ℕ) (n : ℕ) → Scans dump list (answer.Ranges n) exit → Lists dump exit n
+pub scan_lists : (dump list exit : List ℕ) (n : ℕ) → Scans dump list (Ok n) exit → Lists dump exit n
 scan_lists dump list exit n s =
     let l = scan_listed dump (length list) n s.answers in
     record { more = drop (length (rows 0 (cut dump))) list; holds = s.leaves ∙ rw l.0; counts = l.1 }
 
 -- and that it lists a window
-pub never_refused : (dump list exit : List ℕ) (e : ScanError) → length dump ≤ 65536 → 56175 ≤ length list → Scans dump list (answer.Refused e) exit → ⊥
+pub never_refused : (dump list exit : List ℕ) (e : ScanError) → length dump ≤ 65536 → 56175 ≤ length list → Scans dump list (Err e) exit → ⊥
 never_refused dump list exit e h k s =
     let l = scanned-listed dump (length list) h (omega (arith, enough dump h)) in
     let a : refusal (refusal_no e) ≡ ranges (length (cut dump)) = s.answers ∙ ap outcome l in

@@ -19,11 +19,11 @@ pub record Lists (dump list : List ℕ) (count : ℕ) : Type 0 where
 
 -- a frame is kept, and this many bytes of the window are reported; only the output is left open
 abbrev pub after_kept : Dumping → ℕ → List ℕ → Out → Dumping
-after_kept d used frame o = record { held = d.held; place = d.place; used = used; pending = 0; totals = counted_frame d.totals frame; out = o; goes_on = d.goes_on }
+after_kept d used frame o = record { held = d.held; place = d.place; used = used; pending = 0; totals = counted_frame d.totals frame; out = o }
 
 -- bytes are skipped
 abbrev pub after_skipped : Dumping → ℕ → ℕ → Out → Dumping
-after_skipped d used n o = record { held = d.held; place = d.place; used = used; pending = (d.pending + n) % 2 ^ 64; totals = counted_skipped d.totals n; out = o; goes_on = d.goes_on }
+after_skipped d used n o = record { held = d.held; place = d.place; used = used; pending = (d.pending + n) % 2 ^ 64; totals = counted_skipped d.totals n; out = o }
 
 -- a range of a window, whose first n bytes are decided: what becomes of the state, and what is put into the output. A frame is put after the skipped bytes before
 -- it, with its place in the whole dump; for skipped bytes nothing is put yet

@@ -7,51 +7,27 @@ mod window;
 
 use crate::put::Form;
 use crate::window::run;
-use pcap::WriteAnswer;
+use lines::args::{has_argument, is_word};
 use pcap::write::write_header;
-use std::env::{Env, FillError};
+use std::env::Env;
 use std::io::Read;
-use text::bytes::{part, same};
 
-#[derive(Clone, Copy)]
-enum Asked {
-    Form(Form),
-    Unknown,
-}
-
-// Whether there is a second argument beside the program's name.
-fn has_second(rt: &impl Env) -> bool {
-    let mut given = [0u8; 1];
-    match rt.arg(2, &mut given) {
-        Ok(_) => true,
-        Err(FillError::TooLong) => true,
-        Err(FillError::NotPresent) => false,
+// What the arguments ask for; `None`: nothing that is known.
+fn what_is_asked(rt: &impl Env) -> Option<Form> {
+    if !has_argument(rt, 1) {
+        return Some(Form::Lines);
     }
-}
-
-// What the arguments ask for.
-fn what_is_asked(rt: &impl Env) -> Asked {
-    let mut given = [0u8; 16];
-    match rt.arg(1, &mut given) {
-        Ok(n) => {
-            if !has_second(rt) && same(part(&given, 0, n), b"--pcap") {
-                return Asked::Form(Form::Capture);
-            }
-            Asked::Unknown
-        }
-        Err(FillError::TooLong) => Asked::Unknown,
-        Err(FillError::NotPresent) => Asked::Form(Form::Lines),
+    if is_word(rt, 1, b"--pcap") && !has_argument(rt, 2) {
+        return Some(Form::Capture);
     }
+    None
 }
 
-// A capture begins with its header.
+// A capture begins with its header, for which there is room.
 fn begin(output: &mut [u8], form: Form) -> usize {
     match form {
         Form::Lines => 0,
-        Form::Capture => match write_header(output) {
-            WriteAnswer::Wrote(n) => n,
-            WriteAnswer::Refused(_) => 0,
-        },
+        Form::Capture => write_header(output).unwrap_or(0),
     }
 }
 
@@ -66,8 +42,8 @@ fn dump(rt: &(impl Print + Eprint), from: &mut impl Read, form: Form) {
 
 fn main(rt: HostRuntime) {
     match what_is_asked(&rt) {
-        Asked::Form(form) => dump(&rt, &mut rt.stdin(), form),
-        Asked::Unknown => {
+        Some(form) => dump(&rt, &mut rt.stdin(), form),
+        None => {
             let _ = eprintln!(rt; "dump: usage: dump <DUMP >LINES, or dump --pcap <DUMP >CAPTURE");
         }
     }

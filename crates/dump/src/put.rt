@@ -6,7 +6,6 @@ ghost use Rattle.dump.specs.Put.{record_at, kept_bytes, skipped_bytes, frame_byt
 
 use crate::total::{Totals, total_line};
 use lines::output::{Out, with_room};
-use pcap::WriteAnswer;
 use pcap::write::write_record;
 use render::word::word;
 use scan::listed::Listed;
@@ -26,8 +25,8 @@ fn put_record(output: &mut [u8], at: usize, place: usize, frame: &[u8]) -> usize
     let seconds = (place / 1000000 % 4294967296) as u32;
     let microseconds = (place % 1000000) as u32;
     match write_record(&mut record, seconds, microseconds, frame) {
-        WriteAnswer::Wrote(n) => word(output, at, part(&record, 0, n)),
-        WriteAnswer::Refused(_) => at,
+        Ok(n) => word(output, at, part(&record, 0, n)),
+        Err(_) => at,
     }
 }
 
@@ -48,13 +47,6 @@ fn put_kept(output: &mut [u8], at: usize, form: Form, place: usize, frame: &[u8]
     }
 }
 
-// The place so many bytes before another.
-fn start_of(end: usize, len: usize) -> usize
-    ensures { result ≡ end - len }
-{
-    if len <= end { end - len } else { 0 }
-}
-
 // Bytes that are skipped up to a place.
 fn put_skipped(output: &mut [u8], at: usize, form: Form, end: usize, len: usize) -> usize
     ensures { Prints output.old at (skipped_bytes form end len) result output.new }
@@ -65,7 +57,7 @@ fn put_skipped(output: &mut [u8], at: usize, form: Form, end: usize, len: usize)
     match form {
         Form::Lines => {
             let r = Listed {
-                start: start_of(end, len),
+                start: end.saturating_sub(len),
                 len,
                 kept: false,
             };

@@ -3,7 +3,6 @@ ghost use Rattle.std.specs.Prelude.{◌≡◌};
 ghost use Rattle.render.specs.Print.{Prints};
 ghost use Rattle.dump.specs.Total.{is_refused, counted_frame, counted_skipped, hundredths as share, percent_line, frames_line, total_line};
 
-use edm::FrameAnswer;
 use render::word::{number, word};
 
 #[derive(Clone, Copy)]
@@ -16,10 +15,7 @@ pub(crate) struct Totals {
 fn is_refused(frame: &[u8]) -> bool
     ensures { result ≡ is_refused frame.now }
 {
-    match edm::frame::read(frame) {
-        FrameAnswer::Packet(_) => false,
-        FrameAnswer::Refused(_) => true,
-    }
+    edm::frame::read(frame).is_err()
 }
 
 // A frame more. No dump is so long that a count starts again at 0.
@@ -49,10 +45,10 @@ fn hundredths(part: u64, whole: u64) -> u64
     if whole == 0 {
         return 0;
     }
-    if 1844674407370955 < part {
-        return part / (whole / 10000 + 1);
+    match part.checked_mul(10000) {
+        Some(n) => n / whole,
+        None => part / (whole / 10000 + 1),
     }
-    part * 10000 / whole
 }
 
 fn percent(buf: &mut [u8], at: usize, n: u64) -> usize

@@ -10,13 +10,13 @@ use crate::total::{Totals, count_frame, count_skipped};
 use lines::input::{move_to_front, read_full};
 use lines::output::{Out, say_failure, write_out};
 use scan::listed::{Listed, range_at};
+use scan::scan;
 use scan::window::{decided_bytes, decided_places};
-use scan::{ScanAnswer, scan};
 use std::io::Read;
 use text::bytes::part;
 
 // A dump in which a window begins at a place: how many bytes of that window are at hand, how many of them are reported or skipped for good, how many
-// skipped bytes are still to be reported, what was counted, what is to be written, and whether it goes on.
+// skipped bytes are still to be reported, what was counted, and what is to be written.
 #[derive(Clone, Copy)]
 pub(crate) struct Dumping {
     pub held: usize,
@@ -25,7 +25,6 @@ pub(crate) struct Dumping {
     pub pending: usize,
     pub totals: Totals,
     pub out: Out,
-    pub goes_on: bool,
 }
 
 // A frame at a place of the dump.
@@ -86,15 +85,13 @@ fn ranges(
     ensures { GoesOn src.now places d result }
 {
     let mut r = d;
-    let mut i = 0;
-    while i < count {
+    for i in 0..count {
         let range = range_at(list, i);
         let n = decided_bytes(range, places);
         if n == 0 {
             break;
         }
         r = report(rt, output, form, src, range, n, r);
-        i += 1;
     }
     r
 }
@@ -113,7 +110,7 @@ fn window(
     ensures { GoesOn src.now (decided_places (length src.now) is_end) d result }
 {
     match scan(src, list) {
-        ScanAnswer::Ranges(count) => ranges(
+        Ok(count) => ranges(
             rt,
             output,
             form,
@@ -124,7 +121,7 @@ fn window(
             d,
         ),
         // A window is not too long, and the list has room for the ranges of any, so this is not reached.
-        ScanAnswer::Refused(_) => d,
+        Err(_) => d,
     }
 }
 
@@ -139,7 +136,8 @@ fn end(rt: &impl Print, output: &mut [u8], form: Form, is_end: bool, d: Dumping)
     d.out
 }
 
-// Reads on until the window is full or the dump ends, and carries over what is not decided yet.
+// Reads on until the window is full or the dump ends, and carries over what is not decided yet. `None`: the dump has ended, or nothing can be read or
+// written any more.
 fn turn(
     rt: &(impl Print + Eprint),
     from: &mut impl Read,
@@ -148,32 +146,35 @@ fn turn(
     output: &mut [u8],
     form: Form,
     d: Dumping,
-) -> Dumping
+) -> Option<Dumping>
     requires { Buffers input.old list.old output.old }
 {
+    let count = match read_full(from, input, d.held) {
+        Ok(n) => n,
+        Err(e) => {
+            say_failure(rt, "dump: cannot read standard input", Some(e));
+            return None;
+        }
+    };
+    let is_end = count < input.len();
     let mut r = d;
-    let got = read_full(from, input, d.held);
-    if got.failed.is_some() {
-        say_failure(rt, "dump: cannot read standard input", got.failed);
-        r.goes_on = false;
-        return r;
-    }
-    let is_end = got.count < input.len();
     r.used = 0;
-    r = window(rt, output, form, part(input, 0, got.count), list, is_end, r);
+    r = window(rt, output, form, part(input, 0, count), list, is_end, r);
     let out = end(rt, output, form, is_end, r);
     r.out = write_out(rt, output, out);
-    r.held = move_to_front(input, r.used, got.count);
-    r.place = r.place.wrapping_add(r.used);
-    r.goes_on = !is_end;
-    if !r.out.works {
+    if r.out.failed.is_some() {
         say_failure(rt, "dump: cannot write standard output", r.out.failed);
-        r.goes_on = false;
+        return None;
     }
-    r
+    if is_end {
+        return None;
+    }
+    r.held = move_to_front(input, r.used, count);
+    r.place = r.place.wrapping_add(r.used);
+    Some(r)
 }
 
-// A proved loop has to end, and nothing says that the input does. So the loop counts its turns down, from a number that no run uses up.
+// A proved loop has to end, and nothing says that the input does. So the turns are counted, to a number that no run uses up.
 pub(crate) fn run(
     rt: &(impl Print + Eprint),
     from: &mut impl Read,
@@ -195,19 +196,12 @@ pub(crate) fn run(
             refused: 0,
             skipped: 0,
         },
-        out: Out {
-            count,
-            works: true,
-            failed: None,
-        },
-        goes_on: true,
+        out: Out::new(count),
     };
-    let mut turns = u64::MAX;
-    while 0 < turns {
-        if !d.goes_on {
+    for _ in 0..u64::MAX {
+        let Some(next) = turn(rt, from, input, list, output, form, d) else {
             break;
-        }
-        d = turn(rt, from, input, list, output, form, d);
-        turns -= 1;
+        };
+        d = next;
     }
 }

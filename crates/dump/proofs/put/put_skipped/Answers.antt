@@ -14,7 +14,7 @@ pub returns-in-Lines : goal.returns-in-Lines
 unfolding skipped_bytes
 returns-in-Lines c =
     let a = c.args in
-    let printed = rw c.start_of.ensures at c.range-next.ensures in
+    let printed = rw c.saturating_sub.ensures at c.range-next.ensures in
     rw (c.in-Lines.is, ne_eqb a.len 0 c.if-len-eq0.false) (prints_then printed c.word.ensures)
 
 pub returns-in-Capture : goal.returns-in-Capture

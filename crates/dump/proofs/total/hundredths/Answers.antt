@@ -1,4 +1,4 @@
-use Rattle.std.proofs.Common.{eq-eqb, ne_eqb, le-leb}
+use Rattle.std.proofs.Common.{eq-eqb, ne_eqb, le-leb, arith}
 use borrow.Author.Tests.{lt-leb}
 use Rattle.dump.specs.Total.{hundredths}
 use Rattle.dump.proofs.total.hundredths.Goals as goal
@@ -8,14 +8,15 @@ pub returns-then-whole-eq0 : goal.returns-then-whole-eq0
 unfolding hundredths
 returns-then-whole-eq0 c = rw (eq-eqb c.args.whole 0 c.if-whole-eq0.true)
 
-pub returns-then-part-gt1844674407370955 : goal.returns-then-part-gt1844674407370955
+pub returns-in-Some : goal.returns-in-Some
 unfolding hundredths
-returns-then-part-gt1844674407370955 c =
+returns-in-Some c =
     let a = c.args in
-    rw (ne_eqb a.whole 0 c.if-whole-eq0.false, lt-leb a.part 1844674407370955 c.if-part-gt1844674407370955.true)
+    let e = c.in-Some.ensures in
+    rw (ne_eqb a.whole 0 c.if-whole-eq0.false, le-leb a.part 1844674407370955 (omega (arith, e.0)), e.1)
 
-pub returns : goal.returns
+pub returns-in-None : goal.returns-in-None
 unfolding hundredths
-returns c =
+returns-in-None c =
     let a = c.args in
-    rw (ne_eqb a.whole 0 c.if-whole-eq0.false, le-leb a.part 1844674407370955 c.if-part-gt1844674407370955.false)
+    rw (ne_eqb a.whole 0 c.if-whole-eq0.false, lt-leb a.part 1844674407370955 (omega (arith, c.in-None.ensures)))

@@ -6,4 +6,4 @@ use Rattle.dump.proofs.window.turn.Goals as goal
 pub window-r-requires : goal.window-r-requires
 window-r-requires g c =
     let cut = c.part.ensures in
-    (c.requires.2, rw cut (omega (arith, part-few c.read_full-got.new.input 0 c.read_full-got.result.count, c.read_full-got.ensures.fits, c.requires.0)), c.requires.1)
+    (c.requires.2, rw cut (omega (arith, part-few c.read_full.new.input 0 c.in-Ok.n, c.in-Ok.ensures.fits, c.requires.0)), c.requires.1)
