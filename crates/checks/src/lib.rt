@@ -18,7 +18,7 @@ pub mod w36;
 use crate::part::PartWalk;
 
 // The checks of document 01 by name, in its order: of frames, of lines, of responses, of binary events. A field is counted from 1.
-#[derive(Clone, Copy)]
+#[derive(Clone, Copy, PartialEq, Eq)]
 pub enum CheckName {
     FrameOfTwo,
     StartByte,
