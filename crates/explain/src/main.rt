@@ -65,7 +65,8 @@ fn request(rt: &impl Env) -> Option<Asked> {
     Some(Asked { kind, html })
 }
 
-// A byte of the input takes at most 90 of the page (html_page.rt), so there is room for 4,100 of them and all else.
+// The page has a fixed place, since programs have no heap. A byte of the input takes at most 90 of it (html_page.rt), so there is room for 4,100
+// of them and all else.
 fn explain(rt: &(impl Print + Eprint), from: &mut impl Read, asked: Asked) {
     let mut input = [0u8; 4100];
     let n = match read_full(from, &mut input, 0) {

@@ -13,7 +13,6 @@ use at::AtPacketError;
 use at::response::ATResponse;
 use checks::Refused;
 use checks::part::PartWalk;
-use checks::refusal::edm_number;
 use edm::EdmPacketError;
 use std::fmt;
 use std::fmt::{Formatter, Write};
@@ -134,7 +133,7 @@ fn write_refusal<F: Form, W: Write>(
         byte,
     };
     F::reason(to, byte, format_args!("{required}{instead}"))?;
-    let number = edm_number(error);
+    let number = u8::from(error);
     let name = error_name(error);
     F::paragraph(to, format_args!("Refusal {number}, {name}"))?;
     F::gap(to)?;

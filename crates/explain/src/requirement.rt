@@ -54,7 +54,7 @@ fn words_of(check: CheckName) -> &'static str {
     }
 }
 
-// Whether two checks are one: each has words of its own.
+// Whether two checks are one. Names of checks are not compared by `checks`, but each has words of its own.
 pub(crate) fn is_same(a: CheckName, b: CheckName) -> bool {
     words_of(a) == words_of(b) && field_of(a) == field_of(b)
 }
