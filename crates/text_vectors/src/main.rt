@@ -10,7 +10,8 @@ use crate::calls::{
     read, same, starts, valid, whole,
 };
 use crate::show::said;
-use std::env::{Env, FillError};
+use lines::args::has_argument;
+use std::env::Env;
 
 // The first and the last sequence of each row, and the nearest ones outside it.
 fn two_bytes(rt: &(impl Print + Eprint)) {
@@ -152,18 +153,8 @@ fn parts(rt: &(impl Print + Eprint)) {
     starts(rt, b"+N:1", 9, b"1");
 }
 
-// Whether there is an argument beside the program's name.
-fn has_argument(rt: &impl Env) -> bool {
-    let mut given = [0u8; 1];
-    match rt.arg(1, &mut given) {
-        Ok(_) => true,
-        Err(FillError::TooLong) => true,
-        Err(FillError::NotPresent) => false,
-    }
-}
-
 fn run(rt: &(impl Print + Eprint + Env)) {
-    if has_argument(rt) {
+    if has_argument(rt, 1) {
         let _ = eprintln!(rt; "text_vectors: takes no argument");
         return;
     }
