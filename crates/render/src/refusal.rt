@@ -13,7 +13,6 @@ ghost use Rattle.render.specs.Walk.{place_line};
 
 use crate::word::{place_after, word};
 use at::AtPacketError;
-use checks::refusal::{at_number, edm_number};
 use edm::EdmPacketError;
 use pcap::CaptureError;
 use scan::ScanError;
@@ -98,7 +97,7 @@ impl Refusal for EdmPacketError {
     ghost line = { λ e. frame_refused_line (frames.refusal_no e) };
 
     fn number(self) -> u8 {
-        edm_number(self)
+        u8::from(self)
     }
 
     fn print(self, buf: &mut [u8], at: usize) -> usize {
@@ -113,7 +112,7 @@ impl Refusal for AtPacketError {
     ghost line = { λ e. refused_line (events.refusal_no e) };
 
     fn number(self) -> u8 {
-        at_number(self)
+        u8::from(self)
     }
 
     fn print(self, buf: &mut [u8], at: usize) -> usize {
