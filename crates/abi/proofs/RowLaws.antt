@@ -5,10 +5,10 @@ use mathlib.Core.Bool.{Bool, true, false}
 use borrow.Rule.Slice.PartMut.{put_mid}
 use mathlib.Core.List.{List, [], ◌∷◌, ◌++◌, map, append-nil, append_assoc}
 use native.Mathlib.Omega.{arith}
-use lib.ListN.{length, take, drop, set, get_or, length-append, length-take, length-map, length-set, take-append-drop}
+use lib.ListN.{length, take, drop, set, get_or, length-append, length-take, length-map, length-set, get_or-map, take-append-drop}
 use Rattle.std.proofs.lemmas.List.{take-map}
 use lib.Dec.{leb}
-use lib.Seq.{take_all, sets, sets-eq, drop-drop}
+use lib.Seq.{take_all, get_or-take, sets, sets-eq, drop-drop}
 use borrow.Author.Tests.{lt-ltb, le-ltb, leb-true, leb-false}
 use Rattle.text.specs.Put.{placed}
 use Rattle.text.specs.Put.{after}
@@ -16,6 +16,7 @@ use Rattle.text.proofs.PutLaws.{room}
 use Rattle.text.proofs.PutAppend.{placed-length, after_append}
 use Rattle.at.specs.Event.{Row, Value, num, place, Event, event}
 use Rattle.at.specs.Parts.{value_of, values_of, Apart}
+use Rattle.at.specs.declared.parts.Value.TheVariants.{Number}
 use Rattle.at.specs.Response.{Response, ok, other, error}
 use Rattle.at.proofs.PartsLaws.{firsts, taken, row_number}
 use Rattle.at.specs.declared.parts.Parts.{Parts}
@@ -117,20 +118,19 @@ few n vs h = omega (arith, length-take n vs)
 pub at-most-seven : (p : Parts) → length p.values ≡ 7 → length (values_of p) ≤ 7
 at-most-seven p h = few p.count (map value_of p.values) (omega (arith, length-map p.values value_of))
 
--- the values of parts, as they are held
-pub values_held : (p : Parts) (n : ℕ) → n ≡ length (values_of p) → map value_of (take n p.values) ≡ values_of p
-values_held p n e =
+-- the value with a number, as it is held; and past the last one
+pub values_there : (p : Parts) (i : ℕ) → length p.values ≡ 7 → i < 7 → i < p.count → (i < length (values_of p)) × (value_of (get_or p.values i (Number 0)) ≡ get_or (values_of p) i (num 0))
+values_there p i h few more =
+    let xs = map value_of p.values in (
+      omega (arith, length-take p.count xs, length-map p.values value_of),
+      sym (get_or-take p.count xs i (num 0) more ∙ get_or-map value_of p.values i (Number 0)),
+    )
+
+pub values_past : (p : Parts) (i : ℕ) → p.count ≤ i → take (i + 1) (values_of p) ≡ take i (values_of p)
+values_past p i h =
     let xs = map value_of p.values in
-    sym (take-map value_of n p.values) ∙ shorter p.count n xs (e ∙ length-take p.count xs)
-  where
-    shorter : (k m : ℕ) (xs : List Value) → m ≡ min k (length xs) → take m xs ≡ take k xs
-    shorter k m xs e = go (leb k (length xs)) refl
-      where
-        go : (b : Bool) → leb k (length xs) ≡ b → take m xs ≡ take k xs
-        go true t = let f : m ≡ k = omega (arith, leb-true k (length xs) t) in rw f
-        go false t =
-            let f : length xs < k = leb-false k (length xs) t in
-            take_all m xs (omega arith) ∙ sym (take_all k xs (omega arith))
+    let l = length-take p.count xs in
+    take_all (i + 1) (values_of p) (omega (arith, l)) ∙ sym (take_all i (values_of p) (omega (arith, l)))
 
 -- a part that is copied over is placed
 pub put_part : (d held vs : List ℕ) (at n : ℕ) → held ≡ vs → length vs ≡ n → put_mid at (at + n - at) d held ≡ placed d at vs

@@ -1,7 +1,7 @@
 // Answers put into a lent row of numbers, which has room for the longest.
-ghost use Rattle.std.specs.Prelude.{◌≡◌, [], ◌∷◌, ◌+◌, ◌≤◌, ◌<◌, ◌/◌, ◌%◌, length, map, set};
+ghost use Rattle.std.specs.Prelude.{◌≡◌, [], ◌∷◌, ◌+◌, ◌≤◌, ◌<◌, ◌/◌, ◌%◌, length, set};
 ghost use Rattle.text.specs.Put.{placed};
-ghost use Rattle.at.specs.Parts.{value_of};
+ghost use Rattle.at.specs.Parts.{value_of, values_of};
 ghost use Rattle.at.specs.Response.{response_of};
 ghost use Rattle.at.specs.W26 as of26;
 ghost use Rattle.at.specs.W36 as of36;
@@ -38,17 +38,19 @@ fn put_value(row: &mut [u64], at: usize, v: Value) -> usize
     }
 }
 
-// An event from a place on: the number of its row, and its values. The place after them. The values are lent, since each copy of an event in parts
-// takes 184 bytes of stack; and a call of its own, so that the compiler leaves them where they are.
-#[inline(never)]
-fn put_event(row: &mut [u64], at: usize, number: usize, values: &[Value]) -> usize
-    requires { (at + 15 ≤ length row.old) × (length values.now ≤ 7) }
-    ensures { Puts row.old at (number ∷ values_numbers (map value_of values.now)) result row.new }
+// An event in parts, from a place on: the number of its row, and its values. The place after them. The loop goes over all seven values, so that the
+// compiler unrolls it and needs no array of them on the stack.
+#[inline(always)]
+fn put_event(row: &mut [u64], at: usize, p: Parts) -> usize
+    requires { at + 15 ≤ length row.old }
+    ensures { Puts row.old at (p.row ∷ values_numbers (values_of p)) result row.new }
 {
-    row[at] = number as u64;
+    row[at] = p.row as u64;
     let mut to = at + 1;
-    for value in values {
-        to = put_value(row, to, *value);
+    for i in 0..7 {
+        if i < p.count {
+            to = put_value(row, to, p.values[i]);
+        }
     }
     to
 }
@@ -58,16 +60,14 @@ pub(crate) fn put_w26(row: &mut [u64], at: usize, e: w26::ATEvent) -> usize
     requires { at + 15 ≤ length row.old }
     ensures { Puts row.old at (event_numbers of26.table (of26.event_of e)) result row.new }
 {
-    let p = Parts::from(e);
-    put_event(row, at, p.row, &p.values[..p.value_count()])
+    put_event(row, at, Parts::from(e))
 }
 
 pub(crate) fn put_w36(row: &mut [u64], at: usize, e: w36::ATEvent) -> usize
     requires { at + 15 ≤ length row.old }
     ensures { Puts row.old at (event_numbers of36.rows36 (of36.event_of e)) result row.new }
 {
-    let p = Parts::from(e);
-    put_event(row, at, p.row, &p.values[..p.value_count()])
+    put_event(row, at, Parts::from(e))
 }
 
 // The 0 before an event, and the place just past it after its numbers.
