@@ -8,9 +8,6 @@ use Rattle.text.proofs.find.far_crlf.Goals as goal
 pub loop-i-init : goal.loop-i-init
 loop-i-init c = (c.requires, refl)
 
-pub far_byte-requires : goal.far_byte-requires
-far_byte-requires c = omega arith
-
 pub returns-in_default : goal.returns-in_default
 returns-in_default c = sym (c.loop-i.invariant.1 ∙ from-none 13 (10 ∷ []) c.args.s.now c.loop-i.i (omega arith) (sym c.far_byte.ensures ∙ c.in_default.is))
 

@@ -1,20 +1,10 @@
 use Rattle.text.proofs.FindLaws.{from_end, to_end}
 use mathlib.Core.List.{[], ◌∷◌}
-use native.Mathlib.Omega.{arith}
 use mathlib.Core.Path.{sym}
 use Rattle.text.proofs.find.first_byte.Goals as goal
 
 pub returns-then-s-from : goal.returns-then-s-from
 returns-then-s-from c = sym (from_end (c.args.b ∷ []) c.args.s.now c.args.from c.if-s-from.true)
-
-pub overflow_sub-s : goal.overflow_sub-s
-overflow_sub-s c = omega arith
-
-pub byte_before-requires : goal.byte_before-requires
-byte_before-requires c = (omega arith, omega arith)
-
-pub far_byte-requires : goal.far_byte-requires
-far_byte-requires c = omega arith
 
 pub returns-then-s-from-lt64 : goal.returns-then-s-from-lt64
 returns-then-s-from-lt64 c = to_end (c.args.b ∷ []) c.args.s.now c.args.from c.byte_before.result c.byte_before.ensures

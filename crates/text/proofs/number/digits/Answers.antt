@@ -25,9 +25,6 @@ returns-then-not-is_digit c = sym (c.loop-i.invariant.1 ∙ digits_bad c.args.li
 digit : (c : Else-not-is_digit) → is_digit (get_or c.args.s.now c.loop-i.i 0) ≡ true
 digit c = sym c.is_digit.ensures ∙ c.if-not-is_digit.false
 
-pub overflow_mul-value : goal.overflow_mul-value
-overflow_mul-value c = omega arith
-
 pub overflow_add-value : goal.overflow_add-value
 overflow_add-value c = omega (arith, digit-code (get_or c.args.s.now c.loop-i.i 0) (digit (goal.at.overflow_add-value c).Else-not-is_digit))
 

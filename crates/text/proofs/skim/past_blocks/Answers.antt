@@ -5,23 +5,5 @@ use Rattle.text.proofs.skim.past_blocks.Goals as goal
 pub loop-i-init : goal.loop-i-init
 loop-i-init c = (stays c.args.s.now c.args.from (omega arith), c.requires.0)
 
-pub overflow_sub-stop : goal.overflow_sub-stop
-overflow_sub-stop c = omega arith
-
-pub highest-requires : goal.highest-requires
-highest-requires c = omega arith
-
-pub returns-then-highest-ge128 : goal.returns-then-highest-ge128
-returns-then-highest-ge128 c = c.loop-i.invariant
-
-pub overflow_add-i : goal.overflow_add-i
-overflow_add-i c = omega arith
-
-pub loop-i-smaller : goal.loop-i-smaller
-loop-i-smaller c = omega arith
-
 pub loop-i-preserved : goal.loop-i-preserved
 loop-i-preserved c = (onward c.args.s.now _ _ _ c.loop-i.invariant.0 (past_bounded c.args.s.now c.loop-i.i 16 _ (omega arith) c.if-highest-ge128.false c.highest.ensures), omega arith)
-
-pub returns : goal.returns
-returns c = c.loop-i.invariant

@@ -11,26 +11,8 @@ returns-then-len-lt4 c = stays c.args.s.now 0 (omega arith)
 pub loop-i-init : goal.loop-i-init
 loop-i-init c = stays c.args.s.now 0 (omega arith)
 
-pub overflow_sub-len : goal.overflow_sub-len
-overflow_sub-len c = omega arith
-
-pub highest-requires : goal.highest-requires
-highest-requires c = omega arith
-
-pub overflow_add-i : goal.overflow_add-i
-overflow_add-i c = omega arith
-
-pub loop-i-smaller-then-highest-lt128 : goal.loop-i-smaller-then-highest-lt128
-loop-i-smaller-then-highest-lt128 c = omega arith
-
 pub loop-i-preserved-then-highest-lt128 : goal.loop-i-preserved-then-highest-lt128
 loop-i-preserved-then-highest-lt128 c = onward c.args.s.now _ _ _ c.loop-i.invariant (past_bounded c.args.s.now c.loop-i.i 128 _ (omega arith) c.if-highest-lt128.true c.highest.ensures)
-
-pub overflow_add-end : goal.overflow_add-end
-overflow_add-end c = omega arith
-
-pub past_sequences-i-requires : goal.past_sequences-i-requires
-past_sequences-i-requires c = (omega arith, omega arith)
 
 pub returns-then-i-end : goal.returns-then-i-end
 returns-then-i-end c = onward c.args.s.now _ _ _ c.loop-i.invariant c.past_sequences-i.ensures
@@ -41,20 +23,8 @@ loop-i-smaller c = omega (arith, c.past_sequences-i.ensures.1)
 pub loop-i-preserved : goal.loop-i-preserved
 loop-i-preserved c = onward c.args.s.now _ _ _ c.loop-i.invariant c.past_sequences-i.ensures
 
-pub overflow_sub-len-2 : goal.overflow_sub-len-2
-overflow_sub-len-2 c = omega arith
-
-pub highest-requires-2 : goal.highest-requires-2
-highest-requires-2 c = omega arith
-
 pub returns-then-highest-lt128-2 : goal.returns-then-highest-lt128-2
 returns-then-highest-lt128-2 c = let z : c.loop-i.i + ((length c.args.s.now) - c.loop-i.i) ≡ (length c.args.s.now) = omega arith in onward c.args.s.now _ _ _ c.loop-i.invariant (rw z at (past_bounded c.args.s.now c.loop-i.i ((length c.args.s.now) - c.loop-i.i) _ (omega arith) c.if-highest-lt128-2.true c.highest-2.ensures))
-
-pub overflow_sub-len-3 : goal.overflow_sub-len-3
-overflow_sub-len-3 c = omega arith
-
-pub past_sequences-requires : goal.past_sequences-requires
-past_sequences-requires c = (omega arith, omega arith)
 
 pub returns : goal.returns
 returns c = onward c.args.s.now _ _ _ c.loop-i.invariant c.past_sequences.ensures
