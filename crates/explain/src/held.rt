@@ -1,7 +1,7 @@
 // The checks that held before the one that did not: a line each, and one for all checks of a field.
 use crate::form::Form;
 use crate::order::{field_of, first_check, next_check};
-use crate::requirement::{BareRequirement, Requirement, is_same};
+use crate::requirement::{BareRequirement, Requirement};
 use crate::subject::Subject;
 use checks::CheckName;
 use std::{fmt, iter};
@@ -25,7 +25,7 @@ impl<'a> fmt::Display for HeldLine<'a> {
         let next = |c: &CheckName| next_check(*c, subject);
         let others = iter::successors(next(&check), next);
         let others = others.take_while(|c| field.is_some() && field_of(*c) == field);
-        for check in others.take_while(|c| !is_same(*c, broken)).take(MOST) {
+        for check in others.take_while(|c| *c != broken).take(MOST) {
             write!(f, ", {}", BareRequirement(Requirement { check, subject }))?;
         }
         Ok(())
@@ -38,11 +38,11 @@ pub(crate) fn write_held<F: Form, W: fmt::Write>(
     subject: Subject,
 ) -> fmt::Result {
     let first = first_check(subject);
-    if is_same(first, broken) {
+    if first == broken {
         return F::item(to, "none; it is the first check");
     }
     let checks = iter::successors(Some(first), |c| next_check(*c, subject));
-    let held = checks.take_while(|c| !is_same(*c, broken));
+    let held = checks.take_while(|c| *c != broken);
     let mut before = None;
     for check in held.take(MOST) {
         let field = field_of(check);

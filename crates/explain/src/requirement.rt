@@ -54,11 +54,6 @@ fn words_of(check: CheckName) -> &'static str {
     }
 }
 
-// Whether two checks are one. Names of checks are not compared by `checks`, but each has words of its own.
-pub(crate) fn is_same(a: CheckName, b: CheckName) -> bool {
-    words_of(a) == words_of(b) && field_of(a) == field_of(b)
-}
-
 // What the words of a check end in: of a name the radio, of a number its limit or its list.
 fn end_of(check: CheckName, x: Subject) -> &'static str {
     match check {
