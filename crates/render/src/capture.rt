@@ -8,6 +8,7 @@ use crate::refusal::refused_at;
 use crate::word::{number, place_after, word};
 use pcap::{CaptureError, Record};
 
+// A digit always fits a byte: `u8::try_from` would add a refusal that never comes.
 fn six_digits(buf: &mut [u8], at: usize, n: u32) -> usize
     ensures { Prints buf.old at (six_digits n) result buf.new }
 {

@@ -25,6 +25,7 @@ pub fn word(buf: &mut [u8], at: usize, s: &[u8]) -> usize
     to
 }
 
+// Callers widen by `as`: a `usize` has no `From` into `u64`, and one spelling serves all widths.
 pub fn number(buf: &mut [u8], at: usize, n: u64) -> usize
     ensures { Prints buf.old at (decimal n) result buf.new }
 {
