@@ -5,8 +5,8 @@ use Rattle.text.specs.Find.{first_of}
 use Rattle.replay.specs.declared.question.Writer.TheVariants as writer
 use Rattle.replay.specs.declared.question.Kind.{Kind}
 use Rattle.replay.specs.declared.question.Kind.TheVariants as kind
-use Rattle.replay.specs.declared.question.Explainable.{Explainable}
-use Rattle.replay.specs.declared.question.Explainable.TheVariants as explainable
+use Rattle.replay.specs.declared.question.Explained.{Explained}
+use Rattle.std.specs.Prelude.{Option, Some, None}
 use Rattle.lines.specs.Number.{Amount, amount, no_amount, number_in}
 use Rattle.lines.specs.Cut.{Cut, cut, whole, cut_at}
 use Rattle.replay.specs.Question.{at_space, Sized, sized, unsized, followed_by, of_cut, number_then, Asked, reads, writes, resends, nothing, with_size, with_channel, with_size_and_channel, with_size_alone, kinds, explainable_by, of_kind, with_kind, by_kind, by_word, kind_of, words, asked}
@@ -47,14 +47,14 @@ number_shorter s = go (at_space s) (space_shorter s)
     go (cut front rest) h = omega (arith, some_or_none (number_in front) rest)
     go whole h = h
 
-kind_shorter : (k : Kind) (rest : List ℕ) → length (hex_asked (by_kind k rest)) ≤ length rest
-kind_shorter (kind.Read r) rest = omega arith
-kind_shorter (kind.Write w) rest = go (number_then rest) (number_shorter rest)
+kind_shorter : (k : Option Kind) (rest : List ℕ) → length (hex_asked (by_kind k rest)) ≤ length rest
+kind_shorter (Some (kind.Read r)) rest = omega arith
+kind_shorter (Some (kind.Write w)) rest = go (number_then rest) (number_shorter rest)
   where
     go : (x : Sized) → length (after_number x) ≤ length rest → length (hex_asked (with_size w x)) ≤ length rest
     go (sized n t) h = h
     go unsized h = h
-kind_shorter kind.Data rest = go (number_then rest) (number_shorter rest)
+kind_shorter (Some kind.Data) rest = go (number_then rest) (number_shorter rest)
   where
     bounded : (k : Bool) (c n : ℕ) (t : List ℕ) → length (hex_asked (cond k (writes (writer.Data c) n t) nothing)) ≤ length t
     bounded true c n t = omega arith
@@ -67,21 +67,21 @@ kind_shorter kind.Data rest = go (number_then rest) (number_shorter rest)
     go : (x : Sized) → length (after_number x) ≤ length rest → length (hex_asked (with_size_and_channel x)) ≤ length rest
     go (sized n t) h = omega (arith, channel n (number_then t), number_shorter t)
     go unsized h = h
-kind_shorter kind.Resend rest = go (number_in rest)
+kind_shorter (Some kind.Resend) rest = go (number_in rest)
   where
     go : (n : Amount) → length (hex_asked (with_size_alone n)) ≤ length rest
     go (amount size) = omega arith
     go no_amount = omega arith
-kind_shorter kind.Explain rest = go (at_space rest) (space_shorter rest)
+kind_shorter (Some kind.Explain) rest = go (at_space rest) (space_shorter rest)
   where
-    known : (x : Explainable) (t : List ℕ) → length (hex_asked (of_kind x t)) ≤ length t
-    known (explainable.Kind x) t = omega arith
-    known explainable.Nothing t = omega arith
+    known : (x : Option Explained) (t : List ℕ) → length (hex_asked (of_kind x t)) ≤ length t
+    known (Some x) t = omega arith
+    known None t = omega arith
 
     go : (c : Cut) → length (after_cut c) ≤ length rest → length (hex_asked (with_kind c)) ≤ length rest
     go (cut kind t) h = omega (arith, known (explainable_by kinds kind) t)
     go whole h = h
-kind_shorter kind.Unknown rest = omega arith
+kind_shorter None rest = omega arith
 
 pub asked_shorter : (line : List ℕ) → length (hex_asked (asked line)) ≤ length line
 unfolding asked

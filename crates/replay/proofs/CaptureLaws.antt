@@ -1,7 +1,12 @@
 -- Laws of the line of a capture: a record and then the records from there on, or how it ends.
-use Rattle.std.proofs.Common.{◌≡◌, ℕ, ◌<◌, ◌≤◌, Bool, List, ◌++◌, length, sym, arith}
+use Rattle.std.proofs.Common.{◌≡◌, ℕ, ◌<◌, ◌≤◌, Bool, List, ◌++◌, length, sym, ap, arith}
 use Rattle.text.specs.Bytes.{bytes}
-use Rattle.pcap.specs.Read.{head, no_head, read_header, found, end, refusal, read_record}
+use Rattle.std.specs.Prelude.{Option, Some, None, Result, Ok, Err}
+use Rattle.std.specs.Result.{result_unwrap_or}
+use Rattle.pcap.specs.Refusal.{refusal_no}
+use Rattle.pcap.specs.Read.{head, no_head, read_header, found, end, refusal, read_record, record_shown}
+use Rattle.pcap.specs.declared.CaptureError.{CaptureError}
+use Rattle.pcap.specs.declared.Record.{Record}
 use Rattle.pcap.specs.File.{run_at, read_file}
 use Rattle.pcap.specs.declared.ByteOrder.{ByteOrder}
 use Rattle.pcap.proofs.ReadLaws.{found-places}
@@ -25,6 +30,16 @@ module _ (o : ByteOrder) (s : List ℕ) (at : ℕ) where
   pub run-refused : (n : ℕ) → refusal n ≡ read_record o s at → run_line (run_at o s at) ≡ outcome_line at (refusal n)
   unfolding run_line
   run-refused n e = rw (run_on o s at, ← e)
+
+  -- the last answer, the end or a refusal
+  pub run_last : (x : Result (Option Record) CaptureError) → record_shown x ≡ read_record o s at → result_unwrap_or x None ≡ None → run_line (run_at o s at) ≡ outcome_line at (record_shown x)
+  run_last (Ok (Some r)) e n = let z : ◌≡◌ {A = ℕ} 0 1 = cc in absurd (omega arith)
+  run_last (Ok None) e n = run-ended e
+  run_last (Err x) e n = run-refused (refusal_no x) e
+
+pub was-found : (x : Result (Option Record) CaptureError) (r : Record) → result_unwrap_or x None ≡ Some r → (x ≡ Ok (Some r)) × (record_shown x ≡ found r.seconds r.microseconds r.start r.len r.next)
+was-found (Ok y) r e = (ap Ok e, ap (λ (z : Option Record). record_shown (Ok z)) e)
+was-found (Err y) r e = let z : ◌≡◌ {A = ℕ} 0 1 = cc in absurd (omega arith)
 
 -- and of a whole file
 pub file_headed : (s : List ℕ) (o : ByteOrder) (ours : Bool) → head o ours ≡ read_header s → read_file s ≡ run_at o s 24

@@ -5,7 +5,7 @@ use Rattle.scan.specs.Cut.{Piece, cut, text, rows}
 use Rattle.scan.specs.Scan.{refusal_no, scanned, after, Scans}
 use Rattle.scan.specs.Listed.{listed_at}
 use Rattle.scan.specs.declared.ScanError.{ScanError}
-use Rattle.scan.specs.declared.ScanAnswer.TheVariants as answer
+use Rattle.std.specs.Prelude.{Ok, Err}
 use Rattle.scan.proofs.ScanLaws.{scan_listed, scan_refused_lem}
 use Rattle.scan.proofs.Rows.{piece_at, start_of, row_at, from_range, starts_next}
 use Rattle.render.specs.Refusal.{refused_line}
@@ -38,11 +38,11 @@ ranges-none (p ∷ ps) h = absurd (omega arith)
 
 -- a list of 56,175 numbers, and what was answered
 module _ (dump list exit : List ℕ) (room : length list ≡ 56175) where
-  pub dump_listed : (n : ℕ) → Scans dump list (answer.Ranges n) exit
+  pub dump_listed : (n : ℕ) → Scans dump list (Ok n) exit
       → (scan_line (scanned dump 56175) ≡ ranges_line (cut dump)) × (n ≡ length (cut dump)) × (exit ≡ rows 0 (cut dump) ++ drop (length (rows 0 (cut dump))) list)
   dump_listed n s =
       let l = scan_listed dump (length list) n s.answers in
       (ap scan_line (ap (scanned dump) (sym room) ∙ l.0), l.1, s.leaves ∙ ap (after list) l.0)
 
-  pub dump_refused : (e : ScanError) → Scans dump list (answer.Refused e) exit → scan_line (scanned dump 56175) ≡ refused_line (refusal_no e)
+  pub dump_refused : (e : ScanError) → Scans dump list (Err e) exit → scan_line (scanned dump 56175) ≡ refused_line (refusal_no e)
   dump_refused e s = ap scan_line (ap (scanned dump) (sym room) ∙ scan_refused_lem dump (length list) (refusal_no e) s.answers)

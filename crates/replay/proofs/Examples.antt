@@ -13,7 +13,8 @@ use Rattle.lines.specs.Hex.{spells, no_hex, pairs, bytes_in}
 use Rattle.replay.specs.Question.{writes, resends, nothing, words, kind_of, number_then, asked}
 use Rattle.lines.specs.Cut.{cut_at}
 use Rattle.lines.specs.Number.{number_in}
-use Rattle.replay.specs.Reply.{is_note, without_cr, short_reply, reply_line}
+use Rattle.lines.specs.Input.{without_cr}
+use Rattle.replay.specs.Reply.{is_note, short_reply, reply_line}
 
 -- digits of either case, with or without spaces between bytes
 pub pasted : (bytes_in (bytes "AA 00 02") ≡ spells (hex "AA 00 02")) × (bytes_in (bytes "aA0002") ≡ spells (hex "AA 00 02")) × (bytes_in (bytes "-") ≡ spells [])

@@ -34,10 +34,11 @@ use Rattle.replay.specs.declared.question.Writer.{Writer}
 use Rattle.replay.specs.declared.question.Writer.TheVariants as writer
 use Rattle.lines.specs.Hex.{Spelt, spells, no_hex, bytes_in}
 use Rattle.replay.specs.Question.{Asked, reads, writes, resends, nothing, asked}
-use Rattle.replay.specs.Reply.{explain_reply, read_reply, written_line, whole_of, packet_reply, again_reply, write_reply, sized_reply, too_long, what, of_bytes, reply_to, is_note, without_cr, short_reply, reply_line, line_reply}
+use Rattle.replay.specs.Reply.{explain_reply, read_reply, written_line, whole_of, packet_reply, again_reply, write_reply, sized_reply, too_long, what, of_bytes, reply_to, is_note, short_reply, reply_line, line_reply}
 use Rattle.lines.proofs.DecodedLaws.{bytes_of, bytes-spelt}
 use Rattle.replay.proofs.AskedRoom.{hex_asked, asked_shorter}
-use Rattle.replay.proofs.ReplyLaws.{without_shorter}
+use Rattle.lines.specs.Input.{without_cr}
+use Rattle.lines.proofs.InputLaws.{without_shorter}
 
 -- bytes that are explained
 explain_room : (x : Explained) (s : List ℕ) → length s ≤ 131072 → length (explain_reply x s) ≤ 475135

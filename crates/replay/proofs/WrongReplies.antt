@@ -29,7 +29,8 @@ use Rattle.checks.specs.Line.{field_checks, kinds_for, text_checks, line_checks}
 use Rattle.lines.specs.Hex.{pairs, bytes_in}
 use Rattle.replay.specs.Question.{words, kind_of, kinds, explainable_by, asked}
 use Rattle.lines.specs.Cut.{cut_at}
-use Rattle.replay.specs.Reply.{is_note, without_cr, short_reply, reply_line, line_reply, answer_line}
+use Rattle.lines.specs.Input.{without_cr}
+use Rattle.replay.specs.Reply.{is_note, short_reply, reply_line, line_reply, answer_line}
 use Rattle.replay.proofs.session.reply as reply
 
 -- the place that is answered, and every byte of the output

@@ -6,7 +6,7 @@
 --   data                                        SIZE CHANNEL HEX
 --   resend                                      SIZE
 --   explain                                     KIND HEX, with frame, w26, w36, binary or response for KIND
-use Rattle.std.specs.Prelude.{ℕ, cond, List, [], ◌∷◌, nat_le}
+use Rattle.std.specs.Prelude.{ℕ, cond, List, [], ◌∷◌, nat_le, Option, Some, None}
 use Prim.Native.String.{String}
 use Rattle.text.specs.Bytes.{bytes, same}
 use Rattle.lines.specs.Cut.{Cut, cut, whole, cut_at}
@@ -19,8 +19,6 @@ use Rattle.replay.specs.declared.question.Kind.{Kind}
 use Rattle.replay.specs.declared.question.Kind.TheVariants as kind
 use Rattle.replay.specs.declared.question.Explained.{Explained}
 use Rattle.replay.specs.declared.question.Explained.TheVariants as explained
-use Rattle.replay.specs.declared.question.Explainable.{Explainable}
-use Rattle.replay.specs.declared.question.Explainable.TheVariants as explainable
 
 pub data Word : Type 0 where
   ◌asks◌ : String → Kind → Word
@@ -48,9 +46,9 @@ words =
     ∷ ("explain" asks kind.Explain)
     ∷ []
 
-unfoldable pub kind_of : List Word → List ℕ → Kind
-kind_of [] name = kind.Unknown
-kind_of ((word asks k) ∷ rest) name = cond (same name (bytes word)) k (kind_of rest name)
+unfoldable pub kind_of : List Word → List ℕ → Option Kind
+kind_of [] name = None
+kind_of ((word asks k) ∷ rest) name = cond (same name (bytes word)) (Some k) (kind_of rest name)
 
 -- the kinds of bytes that are explained
 pub data KindName : Type 0 where
@@ -66,9 +64,9 @@ kinds =
     ∷ ("response" names explained.Response)
     ∷ []
 
-unfoldable pub explainable_by : List KindName → List ℕ → Explainable
-explainable_by [] name = explainable.Nothing
-explainable_by ((kind names x) ∷ rest) name = cond (same name (bytes kind)) (explainable.Kind x) (explainable_by rest name)
+unfoldable pub explainable_by : List KindName → List ℕ → Option Explained
+explainable_by [] name = None
+explainable_by ((kind names x) ∷ rest) name = cond (same name (bytes kind)) (Some x) (explainable_by rest name)
 
 -- a text cut at its first space, or without one
 abbrev pub at_space : List ℕ → Cut
@@ -113,21 +111,21 @@ abbrev pub with_size_alone : Amount → Asked
 with_size_alone (amount size) = resends size
 with_size_alone no_amount = nothing
 
-abbrev pub of_kind : Explainable → List ℕ → Asked
-of_kind (explainable.Kind x) rest = reads (reader.Explain x) rest
-of_kind explainable.Nothing rest = nothing
+abbrev pub of_kind : Option Explained → List ℕ → Asked
+of_kind (Some x) rest = reads (reader.Explain x) rest
+of_kind None rest = nothing
 
 abbrev pub with_kind : Cut → Asked
 with_kind (cut kind rest) = of_kind (explainable_by kinds kind) rest
 with_kind whole = nothing
 
-abbrev pub by_kind : Kind → List ℕ → Asked
-by_kind (kind.Read r) rest = reads r rest
-by_kind (kind.Write w) rest = with_size w (number_then rest)
-by_kind kind.Data rest = with_size_and_channel (number_then rest)
-by_kind kind.Resend rest = with_size_alone (number_in rest)
-by_kind kind.Explain rest = with_kind (at_space rest)
-by_kind kind.Unknown rest = nothing
+abbrev pub by_kind : Option Kind → List ℕ → Asked
+by_kind (Some (kind.Read r)) rest = reads r rest
+by_kind (Some (kind.Write w)) rest = with_size w (number_then rest)
+by_kind (Some kind.Data) rest = with_size_and_channel (number_then rest)
+by_kind (Some kind.Resend) rest = with_size_alone (number_in rest)
+by_kind (Some kind.Explain) rest = with_kind (at_space rest)
+by_kind None rest = nothing
 
 abbrev pub by_word : Cut → Asked
 by_word (cut word rest) = by_kind (kind_of words word) rest

@@ -1,6 +1,6 @@
 -- The line that answers a line.
-use Rattle.std.specs.Prelude.{ℕ, ◌-◌, Bool, cond, ◌||◌, List, [], ◌++◌, length, take, drop, ◌==◌, nat_le}
-use Rattle.text.specs.Bytes.{bytes, same, starts_with, every}
+use Rattle.std.specs.Prelude.{ℕ, Bool, cond, ◌||◌, List, [], ◌++◌, length, ◌==◌, nat_le}
+use Rattle.text.specs.Bytes.{bytes, starts_with, every}
 use Rattle.text.specs.Decimal.{decimal}
 use Rattle.at.specs.declared.Text.{Text}
 use Rattle.at.specs.Refusal.{number_of, OrRefused, good, refused}
@@ -41,6 +41,7 @@ use Rattle.replay.specs.declared.question.Explained.TheVariants as explained
 use Rattle.replay.specs.declared.question.Writer.{Writer}
 use Rattle.replay.specs.declared.question.Writer.TheVariants as writer
 use Rattle.lines.specs.Hex.{Spelt, spells, no_hex, bytes_in}
+use Rattle.lines.specs.Input.{without_cr}
 use Rattle.replay.specs.Question.{Asked, reads, writes, resends, nothing, asked}
 
 -- the fields of an event that was read from the line s
@@ -123,10 +124,6 @@ reply_to number nothing = what number
 -- a line that is passed on as it is: a heading, or nothing but spaces (32) and tabs (9)
 unfoldable pub is_note : List ℕ → Bool
 is_note line = starts_with line (bytes "#") || every (λ b. (b == 32) || b == 9) line
-
--- a CR (13) at the line's end does not count
-unfoldable pub without_cr : List ℕ → List ℕ
-without_cr line = cond (same (drop (length line - 1) line) (bytes "\r")) (take (length line - 1) line) line
 
 unfoldable pub short_reply : ℕ → List ℕ → List ℕ
 short_reply number line = cond (is_note line) line (reply_to number (asked line))

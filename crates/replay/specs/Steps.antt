@@ -1,17 +1,38 @@
 -- What the private steps of the code say. No promise that a reader needs cites this file.
-use Rattle.std.specs.Prelude.{ℕ, List, drop}
-use Rattle.replay.specs.declared.question.Sized as code
+use Rattle.std.specs.Prelude.{ℕ, ◌≡◌, List, map, Option, Some, None}
+use denote.Ref.{Bor}
+use Rattle.text.specs.Bytes.{bytes}
+use Rattle.replay.specs.declared.question.Explained.{Explained}
+use Rattle.replay.specs.declared.question.Kind.{Kind}
+use Rattle.replay.specs.declared.question.Word as code
 use Rattle.replay.specs.declared.question.Question.{Question}
 use Rattle.replay.specs.declared.question.Question.TheVariants as question
-use Rattle.replay.specs.Question.{Sized, sized, unsized, Asked, reads, writes, resends, nothing}
+use Rattle.replay.specs.Question.{Word, ◌asks◌, KindName, ◌names◌, Sized, sized, unsized, Asked, reads, writes, resends, nothing}
 
--- what the answers about a line say: their places count from its start
-abbrev pub sized_of : List ℕ → code.Sized → Sized
-sized_of line (code.TheVariants.Number value next) = sized value (drop next line)
-sized_of line code.TheVariants.Nothing = unsized
+-- a name beside what it means, in a table of the code and in one of the definitions
+abbrev pub held : {T : Type 0} → code.Word T → List ℕ × T
+held w = (w.0.now, w.1)
 
-abbrev pub asked_of : List ℕ → Question → Asked
-asked_of line (question.Read r from) = reads r (drop from line)
-asked_of line (question.Write w size from) = writes w size (drop from line)
-asked_of line (question.Resend size) = resends size
-asked_of line question.Nothing = nothing
+abbrev pub of_word : Word → List ℕ × Kind
+of_word (word asks k) = (bytes word, k)
+
+abbrev pub of_name : KindName → List ℕ × Explained
+of_name (kind names x) = (bytes kind, x)
+
+-- the same table
+abbrev pub Says : List (code.Word Kind) → List Word → Type 0
+Says rows table = map held rows ≡ map of_word table
+
+abbrev pub SaysKinds : List (code.Word Explained) → List KindName → Type 0
+SaysKinds rows table = map held rows ≡ map of_name table
+
+-- what the answers about a text say
+abbrev pub sized_of : Option (ℕ × Bor (List ℕ)) → Sized
+sized_of (Some p) = sized p.0 p.1.now
+sized_of None = unsized
+
+abbrev pub asked_of : Option Question → Asked
+asked_of (Some (question.Read r hex)) = reads r hex.now
+asked_of (Some (question.Write w size hex)) = writes w size hex.now
+asked_of (Some (question.Resend size)) = resends size
+asked_of None = nothing

@@ -1,9 +1,9 @@
 // The answer to a line.
 ghost use Rattle.std.specs.Prelude.{◌≡◌, ◌*◌, ◌≤◌, ◌||◌, length, ◌==◌};
-ghost use Rattle.text.specs.Bytes.{every};
+ghost use Rattle.std.specs.List.{list_all};
 ghost use Rattle.at.specs.Line.{read_line};
 ghost use Rattle.at.specs.W26.{w26};
-ghost use Rattle.at.specs.W36.{w36, event_of};
+ghost use Rattle.at.specs.W36.{w36};
 ghost use Rattle.at.specs.Walk.{read_either};
 ghost use Rattle.render.specs.Print.{Prints};
 ghost use Rattle.lines.specs.Hex.{bytes_in};
@@ -14,21 +14,21 @@ use crate::dump::every_range;
 use crate::question::{Explained, Question, Reader, Writer, question_of};
 use crate::walk::every_event;
 use at::Text;
-use at::w26::EventAnswer as Event26;
-use at::w36::{BinaryAnswer, EventAnswer as Event36};
 use edm::{Channel, EdmPacket};
-use lines::hex::{Decoded, decode};
-use render::refusal::of_at;
+use lines::hex::decode;
+use render::explained;
+use render::refusal::Refusal;
 use render::word::{number, word};
 use text::bytes::{part, starts_at};
+use writer::Lines;
 
 fn read(output: &mut [u8], place: usize, src: &[u8], reader: Reader) -> usize
     ensures { Prints output.old place (read_reply reader src.now) result output.new }
 {
     match reader {
         Reader::Frame => render::frame::answer(output, place, src, edm::frame::read(src)),
-        Reader::W26 => render::w26::answer(output, place, src, at::w26::read(src, 0)),
-        Reader::W36 => render::w36::answer(output, place, src, at::w36::read(src, 0)),
+        Reader::W26 => render::event::answer(output, place, src, at::w26::read(src, 0)),
+        Reader::W36 => render::event::answer(output, place, src, at::w36::read(src, 0)),
         Reader::Binary => render::w36::binary_answer(
             output,
             place,
@@ -43,8 +43,8 @@ fn read(output: &mut [u8], place: usize, src: &[u8], reader: Reader) -> usize
             at::response::read(src, 0),
         ),
         Reader::WhyFrame => render::why::frame(output, place, src, edm::frame::read(src)),
-        Reader::Why26 => render::why::w26(output, place, src, at::w26::read(src, 0)),
-        Reader::Why36 => render::why::w36(output, place, src, at::w36::read(src, 0)),
+        Reader::Why26 => render::why::event(output, place, src, at::w26::read(src, 0)),
+        Reader::Why36 => render::why::event(output, place, src, at::w36::read(src, 0)),
         Reader::WhyBinary => render::why::binary(
             output,
             place,
@@ -61,60 +61,45 @@ fn explain(output: &mut [u8], place: usize, src: &[u8], kind: Explained) -> usiz
     ensures { Prints output.old place (explain_reply kind src.now) result output.new }
 {
     match kind {
-        Explained::Frame => render::explained::frame(
-            output,
-            place,
-            src,
-            checks::frame::explain(src),
-        ),
-        Explained::W26 => render::explained::w26(output, place, src, checks::w26::explain(src, 0)),
-        Explained::W36 => render::explained::w36(output, place, src, checks::w36::explain(src, 0)),
-        Explained::Binary => render::explained::binary(
-            output,
-            place,
-            src,
-            checks::binary::explain(src, 0),
-        ),
-        Explained::Response => render::explained::response(
-            output,
-            place,
-            src,
-            checks::response::explain(src, 0),
-        ),
+        Explained::Frame => explained::answer(output, place, src, checks::frame::explain(src)),
+        Explained::W26 => explained::answer(output, place, src, checks::w26::explain(src, 0)),
+        Explained::W36 => explained::answer(output, place, src, checks::w36::explain(src, 0)),
+        Explained::Binary => explained::binary(output, place, src, checks::binary::explain(src, 0)),
+        Explained::Response => {
+            explained::answer(output, place, src, checks::response::explain(src, 0))
+        }
     }
+}
+
+// An event of either radio, written.
+fn write_event<E: Lines>(
+    output: &mut [u8],
+    place: usize,
+    target: &mut [u8],
+    src: &[u8],
+    e: E,
+) -> usize
+    ensures { Prints output.old place (event_reply (length target.old) src.now (E.event_of e)) result output.new }
+{
+    let a = writer::write(target, src, e);
+    render::written::answer(output, place, target, a)
 }
 
 fn again26(output: &mut [u8], place: usize, target: &mut [u8], src: &[u8]) -> usize
     ensures { Prints output.old place (again_reply (length target.old) src.now (read_line w26 0 src.now)) result output.new }
 {
     match at::w26::read(src, 0) {
-        Event26::Event { event: e, past: _ } => {
-            let a = writer::w26::write(target, src, e);
-            render::written::event(output, place, target, a)
-        }
-        Event26::Refused(e) => of_at(output, place, e),
+        Ok(read) => write_event(output, place, target, src, read.event),
+        Err(e) => e.print(output, place),
     }
-}
-
-fn write36(
-    output: &mut [u8],
-    place: usize,
-    target: &mut [u8],
-    src: &[u8],
-    e: at::w36::ATEvent,
-) -> usize
-    ensures { Prints output.old place (event_reply (length target.old) src.now (event_of e)) result output.new }
-{
-    let a = writer::w36::write(target, src, e);
-    render::written::event(output, place, target, a)
 }
 
 fn again36_text(output: &mut [u8], place: usize, target: &mut [u8], src: &[u8]) -> usize
     ensures { Prints output.old place (again_reply (length target.old) src.now (read_line w36 0 src.now)) result output.new }
 {
     match at::w36::read(src, 0) {
-        Event36::Event { event: e, past: _ } => write36(output, place, target, src, e),
-        Event36::Refused(e) => of_at(output, place, e),
+        Ok(read) => write_event(output, place, target, src, read.event),
+        Err(e) => e.print(output, place),
     }
 }
 
@@ -122,9 +107,9 @@ fn again36(output: &mut [u8], place: usize, target: &mut [u8], src: &[u8]) -> us
     ensures { Prints output.old place (again_reply (length target.old) src.now (read_either 0 src.now)) result output.new }
 {
     match at::w36::try_parse_binary(src, 0) {
-        BinaryAnswer::Event { event: e, past: _ } => write36(output, place, target, src, e),
-        BinaryAnswer::NotBinary => again36_text(output, place, target, src),
-        BinaryAnswer::Refused(e) => of_at(output, place, e),
+        Ok(Some(read)) => write_event(output, place, target, src, read.event),
+        Ok(None) => again36_text(output, place, target, src),
+        Err(e) => e.print(output, place),
     }
 }
 
@@ -132,7 +117,7 @@ fn command(output: &mut [u8], place: usize, target: &mut [u8], src: &[u8], p: Ed
     ensures { Prints output.old place (packet_reply (length target.old) src.now p) result output.new }
 {
     let a = edm::command::write(target, src, p);
-    render::written::frame(output, place, target, a)
+    render::written::answer(output, place, target, a)
 }
 
 // `target` is the buffer of the size that the line asks for.
@@ -195,10 +180,9 @@ fn read_hex(
     ensures { Prints output.old place (of_bytes n (bytes_in s.now) (read_reply reader)) result output.new }
 {
     match decode(bytes, s) {
-        Decoded::Bytes(k) => read(output, place, part(bytes, 0, k), reader),
-        Decoded::NoHex => what(output, place, n),
-        // The buffer holds what the longest line spells.
-        Decoded::NoRoom => what(output, place, n),
+        Ok(k) => read(output, place, part(bytes, 0, k), reader),
+        // The text is no hex: the buffer holds what the longest line spells.
+        Err(_) => what(output, place, n),
     }
 }
 
@@ -216,36 +200,24 @@ fn write_hex(
     ensures { Prints output.old place (of_bytes n (bytes_in s.now) (sized_reply (length target.old) w size)) result output.new }
 {
     match decode(bytes, s) {
-        Decoded::Bytes(k) => write_within(output, place, target, size, part(bytes, 0, k), w),
-        Decoded::NoHex => what(output, place, n),
-        // The buffer holds what the longest line spells.
-        Decoded::NoRoom => what(output, place, n),
+        Ok(k) => write_within(output, place, target, size, part(bytes, 0, k), w),
+        // The text is no hex: the buffer holds what the longest line spells.
+        Err(_) => what(output, place, n),
     }
 }
 
 // Whether the line holds nothing but spaces and tabs.
 fn is_blank(line: &[u8]) -> bool
-    ensures { result ≡ every (λ b. (b == 32) || b == 9) line.now }
+    ensures { result ≡ list_all (λ b. (b == 32) || b == 9) line.now }
 {
-    let mut i = 0;
-    while i < line.len() {
-        match line[i] {
-            b' ' | b'\t' => {}
-            _ => return false,
-        }
-        i += 1;
-    }
-    true
+    line.iter().all(|b| matches!(*b, b' ' | b'\t'))
 }
 
 // Whether the line is passed on as it is.
 fn is_note(line: &[u8]) -> bool
     ensures { result ≡ is_note line.now }
 {
-    if starts_at(line, 0, b"#") {
-        return true;
-    }
-    is_blank(line)
+    starts_at(line, 0, b"#") || is_blank(line)
 }
 
 // The answer to the line with the number `n`.
@@ -263,34 +235,16 @@ pub(crate) fn answer(
     if is_note(line) {
         return word(output, place, line);
     }
-    let all = line.len();
-    match question_of(line) {
-        Question::Read { reader, from } => read_hex(
-            output,
-            place,
-            bytes,
-            part(line, from, all),
-            n,
-            reader,
-        ),
-        Question::Write { writer, size, from } => write_hex(
-            output,
-            place,
-            bytes,
-            target,
-            part(line, from, all),
-            n,
-            size,
-            writer,
-        ),
-        Question::Resend { size } => write_within(
-            output,
-            place,
-            target,
-            size,
-            part(line, 0, 0),
-            Writer::Resend,
-        ),
-        Question::Nothing => what(output, place, n),
+    let Some(question) = question_of(line) else {
+        return what(output, place, n);
+    };
+    match question {
+        Question::Read { reader, hex } => read_hex(output, place, bytes, hex, n, reader),
+        Question::Write { writer, size, hex } => {
+            write_hex(output, place, bytes, target, hex, n, size, writer)
+        }
+        Question::Resend { size } => {
+            write_within(output, place, target, size, b"", Writer::Resend)
+        }
     }
 }

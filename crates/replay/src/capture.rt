@@ -3,7 +3,7 @@ ghost use Rattle.pcap.specs.File.{run_at, read_file};
 ghost use Rattle.render.specs.Print.{Prints};
 ghost use Rattle.render.specs.Capture.{run_line};
 
-use pcap::{ByteOrder, HeaderAnswer, RecordAnswer};
+use pcap::ByteOrder;
 use render::word::word;
 
 // The records up to the end or a refusal. Each leads to a later place, so there are no more of them than bytes.
@@ -15,14 +15,11 @@ fn records(output: &mut [u8], place: usize, src: &[u8], order: ByteOrder) -> usi
     loop {
         let a = pcap::read::read_record(order, src, at);
         to = render::capture::answer(output, to, at, a);
-        match a {
-            RecordAnswer::Found(r) => {
-                to = word(output, to, b" ; ");
-                at = r.next;
-            }
-            RecordAnswer::End => return to,
-            RecordAnswer::Refused(_) => return to,
-        }
+        let Some(r) = a.unwrap_or(None) else {
+            return to;
+        };
+        to = word(output, to, b" ; ");
+        at = r.next;
     }
 }
 
@@ -30,7 +27,7 @@ pub(crate) fn every_record(output: &mut [u8], place: usize, src: &[u8]) -> usize
     ensures { Prints output.old place (run_line (read_file src.now)) result output.new }
 {
     match pcap::read::read_header(src) {
-        HeaderAnswer::Header { order, is_ours: _ } => records(output, place, src, order),
-        HeaderAnswer::Refused(e) => render::capture::refused_at(output, place, e, 0),
+        Ok(header) => records(output, place, src, header.order),
+        Err(e) => render::refusal::refused_at(output, place, e, 0),
     }
 }

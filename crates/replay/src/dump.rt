@@ -6,9 +6,8 @@ ghost use Rattle.render.specs.Print.{Prints};
 ghost use Rattle.render.specs.Range.{ranges_line, scan_line};
 
 use render::range::range;
-use render::refusal::of_scan;
+use render::refusal::Refusal;
 use render::word::word;
-use scan::ScanAnswer;
 use scan::listed::range_at;
 
 // The ranges that are listed, with a semicolon between two.
@@ -19,11 +18,9 @@ fn ranges(output: &mut [u8], place: usize, list: &[u32], count: usize) -> usize
         return word(output, place, b"-");
     }
     let mut to = range(output, place, range_at(list, 0));
-    let mut i = 1;
-    while i < count {
+    for i in 1..count {
         to = word(output, to, b" ; ");
         to = range(output, to, range_at(list, i));
-        i += 1;
     }
     to
 }
@@ -33,7 +30,7 @@ pub(crate) fn every_range(output: &mut [u8], place: usize, src: &[u8]) -> usize
 {
     let mut list = [0u32; 56175];
     match scan::scan(src, &mut list) {
-        ScanAnswer::Ranges(count) => ranges(output, place, &list, count),
-        ScanAnswer::Refused(e) => of_scan(output, place, e),
+        Ok(count) => ranges(output, place, &list, count),
+        Err(e) => e.print(output, place),
     }
 }

@@ -1,12 +1,13 @@
 // What a line asks.
-ghost use Rattle.std.specs.Prelude.{◌≡◌, drop};
+ghost use Rattle.std.specs.Prelude.{◌≡◌, find, option_map};
+ghost use Rattle.text.specs.Bytes.{same as sameBytes};
 ghost use Rattle.lines.specs.Number.{number_in};
 ghost use Rattle.replay.specs.Question.{words, kind_of, kinds, explainable_by, at_space, number_then, with_size, with_size_and_channel, with_size_alone, with_kind, asked};
-ghost use Rattle.replay.specs.Steps.{sized_of, asked_of};
+ghost use Rattle.replay.specs.Steps.{Says, SaysKinds, sized_of, asked_of};
 
-use lines::number::{Number, decimal};
-use text::bytes::{part, same};
-use text::find::{Found, first_byte};
+use lines::cut::cut_at;
+use lines::number::decimal;
+use text::bytes::same;
 
 #[derive(Clone, Copy)]
 pub(crate) enum Reader {
@@ -44,22 +45,21 @@ pub(crate) enum Writer {
     Again36,
 }
 
-// The bytes are spelt from the place `from` on to the end of the line; a resend has none.
+// The bytes are spelt in hex; a resend has none.
 #[derive(Clone, Copy)]
-pub(crate) enum Question {
+pub(crate) enum Question<'a> {
     Read {
         reader: Reader,
-        from: usize,
+        hex: &'a [u8],
     },
     Write {
         writer: Writer,
         size: usize,
-        from: usize,
+        hex: &'a [u8],
     },
     Resend {
         size: usize,
     },
-    Nothing,
 }
 
 #[derive(Clone, Copy)]
@@ -69,206 +69,122 @@ enum Kind {
     Data,
     Resend,
     Explain,
-    Unknown,
 }
 
-fn kind_of(name: &[u8]) -> Kind
+// A word, and what it means.
+#[derive(Clone, Copy)]
+struct Word<T>(&'static [u8], T);
+
+static WORDS: [Word<Kind>; 18] = [
+    Word(b"frame", Kind::Read(Reader::Frame)),
+    Word(b"w26", Kind::Read(Reader::W26)),
+    Word(b"w36", Kind::Read(Reader::W36)),
+    Word(b"binary", Kind::Read(Reader::Binary)),
+    Word(b"walk36", Kind::Read(Reader::Walk36)),
+    Word(b"response", Kind::Read(Reader::Response)),
+    Word(b"whyframe", Kind::Read(Reader::WhyFrame)),
+    Word(b"why26", Kind::Read(Reader::Why26)),
+    Word(b"why36", Kind::Read(Reader::Why36)),
+    Word(b"whybinary", Kind::Read(Reader::WhyBinary)),
+    Word(b"pcap", Kind::Read(Reader::Capture)),
+    Word(b"scan", Kind::Read(Reader::Scan)),
+    Word(b"data", Kind::Data),
+    Word(b"request", Kind::Write(Writer::Request)),
+    Word(b"resend", Kind::Resend),
+    Word(b"again26", Kind::Write(Writer::Again26)),
+    Word(b"again36", Kind::Write(Writer::Again36)),
+    Word(b"explain", Kind::Explain),
+];
+
+static KINDS: [Word<Explained>; 5] = [
+    Word(b"frame", Explained::Frame),
+    Word(b"w26", Explained::W26),
+    Word(b"w36", Explained::W36),
+    Word(b"binary", Explained::Binary),
+    Word(b"response", Explained::Response),
+];
+
+fn all_words() -> &'static [Word<Kind>]
+    ensures { Says result.now words }
+{
+    &WORDS
+}
+
+fn all_kinds() -> &'static [Word<Explained>]
+    ensures { SaysKinds result.now kinds }
+{
+    &KINDS
+}
+
+// What the first word of these with a name means.
+fn meaning<T: Copy>(words: &[Word<T>], name: &[u8]) -> Option<T>
+    ensures { result ≡ option_map (λ w. w.1) (find (λ w. sameBytes name.now w.0.now) words.now) }
+{
+    words.iter().find(|w| same(name, w.0)).map(|w| w.1)
+}
+
+fn kind_of(name: &[u8]) -> Option<Kind>
     ensures { result ≡ kind_of words name.now }
 {
-    if same(name, b"frame") {
-        return Kind::Read(Reader::Frame);
-    }
-    if same(name, b"w26") {
-        return Kind::Read(Reader::W26);
-    }
-    if same(name, b"w36") {
-        return Kind::Read(Reader::W36);
-    }
-    if same(name, b"binary") {
-        return Kind::Read(Reader::Binary);
-    }
-    if same(name, b"walk36") {
-        return Kind::Read(Reader::Walk36);
-    }
-    if same(name, b"response") {
-        return Kind::Read(Reader::Response);
-    }
-    if same(name, b"whyframe") {
-        return Kind::Read(Reader::WhyFrame);
-    }
-    if same(name, b"why26") {
-        return Kind::Read(Reader::Why26);
-    }
-    if same(name, b"why36") {
-        return Kind::Read(Reader::Why36);
-    }
-    if same(name, b"whybinary") {
-        return Kind::Read(Reader::WhyBinary);
-    }
-    file_kind_of(name)
+    meaning(all_words(), name)
 }
 
-// The words for bytes that hold many frames.
-fn file_kind_of(name: &[u8]) -> Kind
-    ensures { result ≡ kind_of (drop 10 words) name.now }
-{
-    if same(name, b"pcap") {
-        return Kind::Read(Reader::Capture);
-    }
-    if same(name, b"scan") {
-        return Kind::Read(Reader::Scan);
-    }
-    writing_kind_of(name)
-}
-
-// The words that take more than bytes.
-fn writing_kind_of(name: &[u8]) -> Kind
-    ensures { result ≡ kind_of (drop 12 words) name.now }
-{
-    if same(name, b"data") {
-        return Kind::Data;
-    }
-    if same(name, b"request") {
-        return Kind::Write(Writer::Request);
-    }
-    if same(name, b"resend") {
-        return Kind::Resend;
-    }
-    if same(name, b"again26") {
-        return Kind::Write(Writer::Again26);
-    }
-    if same(name, b"again36") {
-        return Kind::Write(Writer::Again36);
-    }
-    if same(name, b"explain") {
-        return Kind::Explain;
-    }
-    Kind::Unknown
-}
-
-#[derive(Clone, Copy)]
-enum Explainable {
-    Kind(Explained),
-    Nothing,
-}
-
-fn explained_kind(name: &[u8]) -> Explainable
+fn explained_kind(name: &[u8]) -> Option<Explained>
     ensures { result ≡ explainable_by kinds name.now }
 {
-    if same(name, b"frame") {
-        return Explainable::Kind(Explained::Frame);
-    }
-    if same(name, b"w26") {
-        return Explainable::Kind(Explained::W26);
-    }
-    if same(name, b"w36") {
-        return Explainable::Kind(Explained::W36);
-    }
-    if same(name, b"binary") {
-        return Explainable::Kind(Explained::Binary);
-    }
-    if same(name, b"response") {
-        return Explainable::Kind(Explained::Response);
-    }
-    Explainable::Nothing
+    meaning(all_kinds(), name)
 }
 
-// A number up to the next space, and the place after that space.
-#[derive(Clone, Copy)]
-enum Sized {
-    Number { value: usize, next: usize },
-    Nothing,
-}
-
-fn number_at(line: &[u8], from: usize) -> Sized
-    ensures { sized_of line.now result ≡ number_then (drop from line.now) }
+// A number up to the next space, and what follows that.
+fn number_then(s: &[u8]) -> Option<(usize, &[u8])>
+    ensures { sized_of result ≡ number_then s.now }
 {
-    let Found::At(i) = first_byte(line, from, b' ') else {
-        return Sized::Nothing;
-    };
-    let Number::Value(value) = decimal(part(line, from, i - from)) else {
-        return Sized::Nothing;
-    };
-    Sized::Number { value, next: i + 1 }
+    let (number, rest) = cut_at(s, b' ')?;
+    Some((decimal(number)?, rest))
 }
 
-fn with_size(line: &[u8], from: usize, writer: Writer) -> Question
-    ensures { asked_of line.now result ≡ with_size writer (number_then (drop from line.now)) }
+fn with_size(s: &[u8], writer: Writer) -> Option<Question<'_>>
+    ensures { asked_of result ≡ with_size writer (number_then s.now) }
 {
-    let Sized::Number { value, next } = number_at(line, from) else {
-        return Question::Nothing;
-    };
-    Question::Write {
-        writer,
-        size: value,
-        from: next,
-    }
+    let (size, hex) = number_then(s)?;
+    Some(Question::Write { writer, size, hex })
 }
 
-fn with_channel(line: &[u8], from: usize) -> Question
-    ensures { asked_of line.now result ≡ with_size_and_channel (number_then (drop from line.now)) }
+fn with_channel(s: &[u8]) -> Option<Question<'_>>
+    ensures { asked_of result ≡ with_size_and_channel (number_then s.now) }
 {
-    let Sized::Number {
-        value: size,
-        next: second,
-    } = number_at(line, from)
-    else {
-        return Question::Nothing;
-    };
-    let Sized::Number {
-        value: channel,
-        next: third,
-    } = number_at(line, second)
-    else {
-        return Question::Nothing;
-    };
-    if 255 < channel {
-        return Question::Nothing;
-    }
-    Question::Write {
-        writer: Writer::Data(channel as u8),
-        size,
-        from: third,
-    }
+    let (size, rest) = number_then(s)?;
+    let (channel, hex) = number_then(rest)?;
+    let channel = u8::try_from(channel).ok()?;
+    let writer = Writer::Data(channel);
+    Some(Question::Write { writer, size, hex })
 }
 
-fn with_size_alone(line: &[u8], from: usize) -> Question
-    ensures { asked_of line.now result ≡ with_size_alone (number_in (drop from line.now)) }
+fn with_size_alone(s: &[u8]) -> Option<Question<'_>>
+    ensures { asked_of result ≡ with_size_alone (number_in s.now) }
 {
-    let Number::Value(size) = decimal(part(line, from, line.len())) else {
-        return Question::Nothing;
-    };
-    Question::Resend { size }
+    let size = decimal(s)?;
+    Some(Question::Resend { size })
 }
 
-fn with_kind(line: &[u8], from: usize) -> Question
-    ensures { asked_of line.now result ≡ with_kind (at_space (drop from line.now)) }
+fn with_kind(s: &[u8]) -> Option<Question<'_>>
+    ensures { asked_of result ≡ with_kind (at_space s.now) }
 {
-    let Found::At(i) = first_byte(line, from, b' ') else {
-        return Question::Nothing;
-    };
-    let Explainable::Kind(kind) = explained_kind(part(line, from, i - from)) else {
-        return Question::Nothing;
-    };
-    Question::Read {
-        reader: Reader::Explain(kind),
-        from: i + 1,
-    }
+    let (kind, hex) = cut_at(s, b' ')?;
+    let reader = Reader::Explain(explained_kind(kind)?);
+    Some(Question::Read { reader, hex })
 }
 
-pub(crate) fn question_of(line: &[u8]) -> Question
-    ensures { asked_of line.now result ≡ asked line.now }
+// `None`: the line asks nothing.
+pub(crate) fn question_of(line: &[u8]) -> Option<Question<'_>>
+    ensures { asked_of result ≡ asked line.now }
 {
-    let Found::At(i) = first_byte(line, 0, b' ') else {
-        return Question::Nothing;
-    };
-    let from = i + 1;
-    match kind_of(part(line, 0, i)) {
-        Kind::Read(reader) => Question::Read { reader, from },
-        Kind::Write(writer) => with_size(line, from, writer),
-        Kind::Data => with_channel(line, from),
-        Kind::Resend => with_size_alone(line, from),
-        Kind::Explain => with_kind(line, from),
-        Kind::Unknown => Question::Nothing,
+    let (word, rest) = cut_at(line, b' ')?;
+    match kind_of(word)? {
+        Kind::Read(reader) => Some(Question::Read { reader, hex: rest }),
+        Kind::Write(writer) => with_size(rest, writer),
+        Kind::Data => with_channel(rest),
+        Kind::Resend => with_size_alone(rest),
+        Kind::Explain => with_kind(rest),
     }
 }

@@ -3,7 +3,7 @@ ghost use Rattle.at.specs.Walk.{walk};
 ghost use Rattle.render.specs.Print.{Prints};
 ghost use Rattle.render.specs.Walk.{walk_line};
 
-use at::walk::{EventStep, EventWalk};
+use at::walk::EventWalk;
 use render::word::word;
 
 // The steps of the walk up to its end or its refusal. Each event moves the walk on, so there are no more steps than bytes.
@@ -15,13 +15,10 @@ pub(crate) fn every_event(output: &mut [u8], place: usize, src: &[u8]) -> usize
     loop {
         let step = walk.next(src);
         to = render::w36::step(output, to, src, step);
-        match step {
-            EventStep::Event { event: _, rest } => {
-                to = word(output, to, b" ; ");
-                walk = rest;
-            }
-            EventStep::End => return to,
-            EventStep::Refused { error: _, at: _ } => return to,
-        }
+        let Some(step) = step.unwrap_or(None) else {
+            return to;
+        };
+        to = word(output, to, b" ; ");
+        walk = step.rest;
     }
 }

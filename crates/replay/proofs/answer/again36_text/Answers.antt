@@ -1,8 +1,8 @@
 use Rattle.replay.proofs.answer.again36_text.Goals as goal
 
 -- `again36_text` meets its contract.
-pub returns-in-Event : goal.returns-in-Event
-returns-in-Event c = rw (← c.read.ensures, c.in-Event.is) c.write36.ensures
+pub returns-in-Ok : goal.returns-in-Ok
+returns-in-Ok c = rw (← c.read.ensures, c.in-Ok.is) c.write_event.ensures
 
-pub returns-in-Refused : goal.returns-in-Refused
-returns-in-Refused c = rw (← c.read.ensures, c.in-Refused.is) c.of_at.ensures
+pub returns-in-Err : goal.returns-in-Err
+returns-in-Err c = rw (← c.read.ensures, c.in-Err.is) c.print.ensures

@@ -1,4 +1,5 @@
 use Rattle.replay.specs.Reply.{is_note}
+use Rattle.replay.proofs.ReplyLaws.{all-every}
 use Rattle.replay.proofs.answer.is_note.Goals as goal
 
 -- `is_note` meets its contract.
@@ -6,6 +7,6 @@ pub returns-then-starts_at : goal.returns-then-starts_at
 unfolding is_note
 returns-then-starts_at c = rw (← c.starts_at.ensures, c.if-starts_at.true)
 
-pub returns : goal.returns
+pub returns-else-starts_at : goal.returns-else-starts_at
 unfolding is_note
-returns c = rw (← c.starts_at.ensures, c.if-starts_at.false) c.is_blank.ensures
+returns-else-starts_at c = rw (← c.starts_at.ensures, c.if-starts_at.false, ← all-every _ c.args.line.now) c.is_blank.ensures

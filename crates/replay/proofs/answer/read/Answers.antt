@@ -23,10 +23,10 @@ pub returns-in-WhyFrame : goal.returns-in-WhyFrame
 returns-in-WhyFrame c = rw (c.in-WhyFrame.is, ← c.read-in-WhyFrame.ensures) c.frame.ensures
 
 pub returns-in-Why26 : goal.returns-in-Why26
-returns-in-Why26 c = rw (c.in-Why26.is, ← c.read-in-Why26.ensures) c.w26.ensures
+returns-in-Why26 c = rw (c.in-Why26.is, ← c.read-in-Why26.ensures) c.event.ensures
 
 pub returns-in-Why36 : goal.returns-in-Why36
-returns-in-Why36 c = rw (c.in-Why36.is, ← c.read-in-Why36.ensures) c.w36.ensures
+returns-in-Why36 c = rw (c.in-Why36.is, ← c.read-in-Why36.ensures) c.event-in-Why36.ensures
 
 pub returns-in-WhyBinary : goal.returns-in-WhyBinary
 returns-in-WhyBinary c = rw (c.in-WhyBinary.is, ← c.try_parse_binary-in-WhyBinary.ensures) c.binary.ensures

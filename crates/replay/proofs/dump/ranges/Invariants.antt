@@ -1,4 +1,4 @@
-use Rattle.std.proofs.Common.{◌≡◌, ℕ, ◌-◌, ◌≤◌, List, ◌++◌, length, drop}
+use Rattle.std.proofs.Common.{◌≡◌, ℕ, ◌≤◌, List, ◌++◌, length, drop}
 use Rattle.scan.specs.Cut.{Piece, rows}
 use Rattle.scan.proofs.Rows.{start_of}
 use Rattle.render.specs.Print.{Prints}
@@ -12,6 +12,3 @@ invariant-loop-i l =
     × (l.i ≤ l.count)
     × ((ps : List Piece) (more : List ℕ) → l.list ≡ rows 0 ps ++ more → l.count ≡ length ps → (r : ℕ) (e : List ℕ)
     → Prints l.output l.to (more_line (start_of ps l.i) (drop l.i ps)) r e → Prints l.initial.output l.initial.to (more_line (start_of ps 1) (drop 1 ps)) r e)
-
-abbrev pub decreases-loop-i : goal.decreases-loop-i
-decreases-loop-i l = l.count - l.i

@@ -6,10 +6,10 @@ use Rattle.replay.proofs.walk.every_event.Given as goal
 
 -- `every_event` meets its contract: what completes the walk from its place on completes the whole. It ends, since each event moves the walk on, and
 -- not past the end of the bytes.
-abbrev pub invariant-loop-rest : goal.invariant-loop-rest
-invariant-loop-rest l =
+abbrev pub invariant-loop-step : goal.invariant-loop-step
+invariant-loop-step l =
     (length l.output ≡ length l.initial.output)
     × ((r : ℕ) (e : List ℕ) → Prints l.output l.to (walk_line l.src (walk_at l.src l.walk.at)) r e → Prints l.initial.output l.place (walk_line l.src (walk_over l.src)) r e)
 
-abbrev pub decreases-loop-rest : goal.decreases-loop-rest
-decreases-loop-rest l = length l.src - l.walk.at
+abbrev pub decreases-loop-step : goal.decreases-loop-step
+decreases-loop-step l = length l.src - l.walk.at
