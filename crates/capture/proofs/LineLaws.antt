@@ -1,17 +1,18 @@
 -- Laws of a line: blanks at its end, its note, its time, and its frame. Assumes nothing.
-use Rattle.std.proofs.Common.{◌≡◌, ℕ, ◌+◌, ◌-◌, ◌<◌, ◌≤◌, Bool, true, false, cond, ◌&&◌, eqb, leb, List, [], ◌∷◌, ◌++◌, length, get_or, take, drop, sym, refl, ap, ◌∙◌, add-one, arith, take-suc, le-leb, leb-true}
+use Rattle.std.proofs.Common.{◌≡◌, ℕ, ◌+◌, ◌-◌, ◌<◌, ◌≤◌, Bool, true, false, cond, ◌&&◌, eqb, leb, List, [], ◌∷◌, ◌++◌, length, get_or, take, sym, refl, ap, ◌∙◌, add-one, arith, take-suc, take_all, le-leb, leb-true, eqb-true}
 use borrow.Author.Tests.{lt-leb}
 use Rattle.text.specs.Bytes.{bytes, part}
-use Rattle.text.specs.Find.{first_from}
-use Rattle.text.specs.declared.find.Found.TheVariants.{At, Nothing}
-use Rattle.text.proofs.BytesLaws.{part-rest}
 use Rattle.lines.specs.Hex.{Spelt, spells, no_hex, bytes_in, answer, after}
-use Rattle.lines.specs.declared.hex.Decoded.TheVariants as decoded
+use Rattle.std.specs.Prelude.{Option, Some, None, Ok, Err, ok_or}
+use Rattle.capture.specs.declared.line.Fault.{Fault}
+use Rattle.capture.specs.declared.line.Stamp.{Stamp}
+use Rattle.lines.specs.declared.hex.HexError.{HexError}
+use Rattle.lines.specs.declared.hex.HexError.TheVariants.{NoHex, NoRoom}
+use Rattle.capture.specs.Steps.{fault_of, stamp_of}
 use Rattle.lines.proofs.DecodedLaws.{bytes_of, decoded_bytes, decoded_fits, decoded_no-hex, decoded_no-room}
 use Rattle.lines.specs.Number.{Amount, amount, no_amount, number_in}
 use Rattle.lines.specs.Cut.{Cut, cut, whole, cut_at}
-use Rattle.lines.proofs.CutLaws.{cut_there, cut-nowhere}
-use Rattle.capture.specs.declared.line.Fault.TheVariants.{NoFrame, FrameTooLong}
+use Rattle.capture.specs.declared.line.Fault.TheVariants.{NoTime, FrameTooLong}
 use Rattle.capture.specs.Line.{is_blank, and_then, trimmed, content, Time, time, no_time, time_of, around_point, stamp_in, says, nothing, wrong, record_of, around_space, said_by, said_in}
 
 -- a blank at the end goes, and any other byte stays with all that is before it
@@ -29,25 +30,31 @@ other_last (y ∷ x) b h = ap (and_then y) (other_last x b h) ∙ go x
     go [] = refl
     go (z ∷ x) = refl
 
-module _ (s : List ℕ) (n last : ℕ) (e : n ≡ last + 1) (h : last < length s) where
-  split : take n s ≡ take last s ++ (get_or s last 0 ∷ [])
-  split = rw (e, add-one last) (take-suc s last 0 h)
+module _ (s : List ℕ) (h : 1 ≤ length s) where
+  split : s ≡ take (length s - 1) s ++ (get_or s (length s - 1) 0 ∷ [])
+  split =
+      let z : length s - 1 + 1 ≡ length s = omega arith in
+      sym (take_all (length s) s (omega arith)) ∙ ap (λ (n : ℕ). take n s) (sym z ∙ add-one (length s - 1)) ∙ take-suc s (length s - 1) 0 (omega arith)
 
-  pub blank_dropped : is_blank (get_or s last 0) ≡ true → trimmed (take n s) ≡ trimmed (take last s)
-  blank_dropped b = rw split (blank_last (take last s) (get_or s last 0) b)
+  pub blank_dropped : is_blank (get_or s (length s - 1) 0) ≡ true → trimmed s ≡ trimmed (take (length s - 1) s)
+  blank_dropped b = ap trimmed split ∙ blank_last (take (length s - 1) s) (get_or s (length s - 1) 0) b
 
-  pub rest-kept : is_blank (get_or s last 0) ≡ false → trimmed (take n s) ≡ take n s
-  rest-kept b = rw split (other_last (take last s) (get_or s last 0) b)
+  pub rest-kept : is_blank (get_or s (length s - 1) 0) ≡ false → trimmed s ≡ s
+  rest-kept b = ap trimmed split ∙ other_last (take (length s - 1) s) (get_or s (length s - 1) 0) b ∙ sym split
 
--- what is cut off where a search finds its mark, and nothing where it finds none
-module _ (mark s : List ℕ) where
-  pub found-cut : (i : ℕ) → first_from mark s 0 ≡ At i → cut_at mark s ≡ cut (part s 0 i) (part s (i + 1) (length s))
-  found-cut i e =
-      let z : i - 0 ≡ i = omega arith in
-      cut_there mark s 0 i e ∙ ap (λ (k : ℕ). cut (part s 0 k) (drop (i + 1) s)) z ∙ ap (cut (part s 0 i)) (sym (part-rest s (i + 1)))
+pub trimmed-none : (s : List ℕ) → length s < 1 → trimmed s ≡ s
+unfolding trimmed
+trimmed-none [] h = refl
+trimmed-none (b ∷ s) h = absurd (omega arith)
 
-  pub found_none : first_from mark s 0 ≡ Nothing → cut_at mark s ≡ whole
-  found_none e = cut-nowhere mark s 0 e
+-- a time that is there or is asked for in vain
+pub stamp-none : (o : Option Stamp) (e : Fault) → ok_or o NoTime ≡ Err e → (stamp_of o ≡ no_time) × (e ≡ NoTime)
+stamp-none (Some t) e q = let z : ◌≡◌ {A = ℕ} 0 1 = cc in absurd (omega arith)
+stamp-none None e q = (refl, cc)
+
+pub stamp-some : (o : Option Stamp) (t : Stamp) → ok_or o NoTime ≡ Ok t → stamp_of o ≡ time t.seconds t.microseconds
+stamp-some (Some u) t q = let z : u ≡ t = cc in ap (λ (x : Stamp). stamp_of (Some x)) z
+stamp-some None t q = let z : ◌≡◌ {A = ℕ} 0 1 = cc in absurd (omega arith)
 
 -- two numbers that are a time
 module _ (a b : ℕ) where
@@ -62,39 +69,38 @@ module _ (a b : ℕ) where
 
 -- a frame that was decoded into a buffer of 4,099 bytes
 module _ (a b : ℕ) (buf exit : List ℕ) (l : length buf ≡ 4099) (r : Spelt) where
-  pub framed-bytes : (n : ℕ) → decoded.Bytes n ≡ answer (length buf) r → exit ≡ after buf r → says a b (part exit 0 n) ≡ record_of (time a b) r
+  pub framed-bytes : (n : ℕ) → Ok n ≡ answer (length buf) r → exit ≡ after buf r → says a b (part exit 0 n) ≡ record_of (time a b) r
   framed-bytes n e x =
       let p = decoded_bytes buf exit r n e x in
       let f = part exit 0 n in
       let k : length f ≤ 4099 = rw (l, p) at (decoded_fits (length buf) n r e) in
       rw (p, le-leb (length f) 4099 k)
 
-  pub framed-no_hex : decoded.NoHex ≡ answer (length buf) r → wrong NoFrame ≡ record_of (time a b) r
-  framed-no_hex e = rw (decoded_no-hex (length buf) r e)
-
-  pub framed-no-room : decoded.NoRoom ≡ answer (length buf) r → wrong FrameTooLong ≡ record_of (time a b) r
-  framed-no-room e = go r (rw l at (decoded_no-room (length buf) r e)) e
+  -- or was not
+  pub framed-none : (x : HexError) → Err x ≡ answer (length buf) r → wrong (fault_of x) ≡ record_of (time a b) r
+  framed-none NoHex e = rw (decoded_no-hex (length buf) r e)
+  framed-none NoRoom e = go r (rw l at (decoded_no-room (length buf) r e)) e
     where
-      go : (r : Spelt) → 4099 < length (bytes_of r) → decoded.NoRoom ≡ answer (length buf) r → wrong FrameTooLong ≡ record_of (time a b) r
+      go : (r : Spelt) → 4099 < length (bytes_of r) → Err NoRoom ≡ answer (length buf) r → wrong FrameTooLong ≡ record_of (time a b) r
       go (spells y) h e = rw (lt-leb (length y) 4099 h)
       go no_hex h e = let z : ◌≡◌ {A = ℕ} 0 1 = cc in absurd (omega arith)
 
 -- a line by what stands before its note
 module _ (line s : List ℕ) (e : s ≡ content line) where
-  pub empty_line : length s ≡ 0 → nothing ≡ said_in line
+  pub empty_line : true ≡ eqb (length s) 0 → nothing ≡ said_in line
   unfolding said_in
   empty_line h = rw (← e) (go s h)
     where
-      go : (s : List ℕ) → length s ≡ 0 → nothing ≡ said_by s
+      go : (s : List ℕ) → true ≡ eqb (length s) 0 → nothing ≡ said_by s
       go [] h = refl
-      go (b ∷ s) h = absurd (omega arith)
+      go (b ∷ s) h = let z = eqb-true (length (b ∷ s)) 0 (sym h) in absurd (omega (arith, z))
 
-  pub full_line : (length s ≡ 0 → ⊥) → said_in line ≡ around_space s (cut_at (bytes " ") s)
+  pub full_line : false ≡ eqb (length s) 0 → said_in line ≡ around_space s (cut_at (bytes " ") s)
   unfolding said_in
   full_line h = rw (← e) (go s h)
     where
-      go : (s : List ℕ) → (length s ≡ 0 → ⊥) → said_by s ≡ around_space s (cut_at (bytes " ") s)
-      go [] h = absurd (h refl)
+      go : (s : List ℕ) → false ≡ eqb (length s) 0 → said_by s ≡ around_space s (cut_at (bytes " ") s)
+      go [] h = let z : ◌≡◌ {A = ℕ} 0 1 = cc in absurd (omega arith)
       go (b ∷ s) h = refl
 
 -- a record that a line says has the microseconds of one second and a frame of at most 4,099 bytes

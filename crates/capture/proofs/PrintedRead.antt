@@ -24,6 +24,8 @@ use Rattle.lines.specs.Cut.{cut, cut_at}
 use Rattle.lines.proofs.NumberLaws.{capped_start}
 use Rattle.capture.specs.Line.{is_blank, trimmed, content, time, stamp_in, says, said_in}
 use Rattle.capture.specs.Steps.{said_of}
+use Rattle.std.specs.Prelude.{Option, Result}
+use Rattle.capture.specs.declared.line.Fault.{Fault}
 use Rattle.capture.specs.declared.line.Said.{Said}
 use Rattle.capture.proofs.line.record_in as record_in_lem
 use Rattle.capture.proofs.LineLaws.{blank_last, other_last, full_line, time-good}
@@ -81,7 +83,7 @@ six_value b h =
 number-said : (s : List ℕ) (n : ℕ) → 0 < length s → digits_from 0 s ≡ some n → n < 4294967296 → number_in s ≡ amount n
 number-said s n l e h =
     let m : min n 4294967296 ≡ n = omega arith in
-    capped_start s l ∙ ap capped e ∙ ap amount m
+    capped_start s (sym (ne_eqb (length s) 0 (λ z. omega (arith, z, l)))) ∙ ap capped e ∙ ap amount m
 
 stamp-said : (a b : ℕ) → a < 4294967296 → b ≤ 999999 → stamp_in (time_line a b) ≡ time a b
 unfolding stamp_in
@@ -243,10 +245,10 @@ printed_is-said a b f h k =
     let split : p ≡ t ++ (32 ∷ hex_of f) = append_assoc t (bytes " ") (hex_of f) in
     let l = length-append (t ++ bytes " ") (hex_of f) in
     let n = length-append t (bytes " ") in
-    full_line (p ++ bytes " # " ++ m) p c (λ z. omega (arith, z, l, n))
+    full_line (p ++ bytes " # " ++ m) p c (sym (ne_eqb (length p) 0 (λ z. omega (arith, z, l, n))))
     ∙ rw (split, cut-after 32 t (hex_of f) (time-plain a b 32 (omega arith) refl), stamp-said a b h.0 h.1, hex-said f k, le-leb (length f) 4099 h.2)
 
 -- so whatever `record_in` answers to the line that `line` prints, without its line end, is that record: by its own contract
-pub printed_reads_back : (κs : Lfts 2) (args : Dens κs record_in_lem.Kinds.ps) (x : Said) (e : AtExit (ended_of 2 record_in_lem.Kinds.ps record_in_lem.Kinds.r) κs)
+pub printed_reads_back : (κs : Lfts 2) (args : Dens κs record_in_lem.Kinds.ps) (x : Result (Option Said) Fault) (e : AtExit (ended_of 2 record_in_lem.Kinds.ps record_in_lem.Kinds.r) κs)
     → record_in_lem.Reads.Post κs args x e → (a b : ℕ) (f : List ℕ) → Fits (entry a b f) → Bytes f → args.1.0.now ≡ meaning_line a b f → said_of e.0.now x ≡ says a b f
 printed_reads_back κs args x e p a b f h k l = p ∙ ap said_in l ∙ printed_is-said a b f h k

@@ -5,10 +5,11 @@ use Rattle.text.specs.Put.{placed}
 use Rattle.pcap.specs.Layout.{record_bytes}
 use Rattle.pcap.specs.Write.{bytes, record_out, wrote, outcome, after, shown, Writes}
 use Rattle.pcap.specs.declared.ByteOrder.TheVariants.{Little}
-use Rattle.pcap.specs.declared.WriteAnswer.{WriteAnswer}
+use Rattle.pcap.specs.declared.CaptureError.{CaptureError}
+use Rattle.std.specs.Prelude.{Result}
 use Rattle.pcap.proofs.WriteLaws.{head_list_lem, record_fits}
 
-module _ (out f : List ℕ) (at a b : ℕ) (x : WriteAnswer) (exit : List ℕ) (h : b ≤ 999999) (k : length f ≤ 4099) (l : at + 4115 ≤ length out)
+module _ (out f : List ℕ) (at a b : ℕ) (x : Result ℕ CaptureError) (exit : List ℕ) (h : b ≤ 999999) (k : length f ≤ 4099) (l : at + 4115 ≤ length out)
     (w : Writes (mid_of at (length out - at) out) (record_out (length (mid_of at (length out - at) out)) a b f) x exit) where
   rest : mid_of at (length out - at) out ≡ drop at out
   rest = take_all (length out - at) (drop at out) (omega (arith, length-drop at out))

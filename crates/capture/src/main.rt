@@ -6,27 +6,12 @@ mod read;
 mod window;
 mod write;
 
-use std::env::{Env, FillError};
-use text::bytes::{part, same};
-
-// Whether there is a second argument beside the program's name.
-fn has_second(rt: &impl Env) -> bool {
-    let mut given = [0u8; 1];
-    match rt.arg(2, &mut given) {
-        Ok(_) => true,
-        Err(FillError::TooLong) => true,
-        Err(FillError::NotPresent) => false,
-    }
-}
+use lines::args::{has_argument, is_word};
+use std::env::Env;
 
 // Whether the one argument is a word.
 fn is_asked(rt: &impl Env, word: &[u8]) -> bool {
-    let mut given = [0u8; 16];
-    match rt.arg(1, &mut given) {
-        Ok(n) => !has_second(rt) && same(part(&given, 0, n), word),
-        Err(FillError::TooLong) => false,
-        Err(FillError::NotPresent) => false,
-    }
+    is_word(rt, 1, word) && !has_argument(rt, 2)
 }
 
 // The input holds a longest line and what is read after it, the output the line of a longest record and those before it.

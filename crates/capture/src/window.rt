@@ -10,7 +10,6 @@ pub(crate) struct Window {
     pub start: usize,
     pub end: usize,
     pub is_open: bool,
-    pub has_failed: bool,
 }
 
 impl Window {
@@ -19,7 +18,6 @@ impl Window {
             start: 0,
             end: 0,
             is_open: true,
-            has_failed: false,
         }
     }
 
@@ -34,28 +32,23 @@ pub(crate) fn at_hand(input: &[u8], w: Window) -> &[u8] {
     part(part(input, 0, w.end), w.start, w.end)
 }
 
-// Reads once more, after what is at hand. Where the system fails to read, what is at hand is not used.
+// Reads once more, after what is at hand. Where the system fails to read, that is said, and what is at hand is not used.
 pub(crate) fn refill(
     rt: &impl Eprint,
     from: &mut impl Read,
     input: &mut [u8],
     w: Window,
-) -> Window {
+) -> Option<Window> {
     let kept = move_to_front(input, w.start, w.end);
-    let got = read_after(from, input, kept);
-    if got.failed.is_some() {
-        say_failure(rt, "capture: cannot read standard input", got.failed);
-        return Window {
+    match read_after(from, input, kept) {
+        Ok(end) => Some(Window {
             start: 0,
-            end: 0,
-            is_open: false,
-            has_failed: true,
-        };
-    }
-    Window {
-        start: 0,
-        end: got.count,
-        is_open: kept < got.count,
-        has_failed: false,
+            end,
+            is_open: kept < end,
+        }),
+        Err(e) => {
+            say_failure(rt, "capture: cannot read standard input", Some(e));
+            None
+        }
     }
 }

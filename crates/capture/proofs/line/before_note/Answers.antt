@@ -1,18 +1,11 @@
-use Rattle.std.proofs.Common.{sym, ◌∙◌}
-use Rattle.text.specs.Bytes.{bytes}
 use Rattle.capture.specs.Line.{content}
-use Rattle.capture.proofs.LineLaws.{found-cut, found_none}
 use Rattle.capture.proofs.line.before_note.Goals as goal
 
 -- `line::before_note` meets its contract. Assumes nothing.
-pub returns-in-At : goal.returns-in-At
+pub returns-in-Some : goal.returns-in-Some
 unfolding content
-returns-in-At c =
-    let q = sym c.first_byte.ensures ∙ c.in-At.is in
-    rw (found-cut (bytes "#") c.args.line.now c.in-At.i q, ← c.part.ensures) c.trim.ensures
+returns-in-Some c = rw (← c.cut_at.ensures, c.in-Some.is) c.trim.ensures
 
-pub returns-in-Nothing : goal.returns-in-Nothing
+pub returns-in-None : goal.returns-in-None
 unfolding content
-returns-in-Nothing c =
-    let q = sym c.first_byte.ensures ∙ c.in-Nothing.is in
-    rw (found_none (bytes "#") c.args.line.now q) c.trim-in-Nothing.ensures
+returns-in-None c = rw (← c.cut_at.ensures, c.in-None.is) c.trim-in-None.ensures

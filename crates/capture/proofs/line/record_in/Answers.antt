@@ -1,42 +1,33 @@
-use Rattle.std.proofs.Common.{sym, ◌∙◌, arith}
-use Rattle.text.specs.Bytes.{bytes}
-use Rattle.text.proofs.FindLaws.{from_at}
-use Rattle.capture.proofs.LineLaws.{found-cut, found_none, empty_line, full_line}
+use Rattle.std.proofs.Common.{sym, ap, ◌∙◌}
+use Rattle.std.proofs.lemmas.Result.{err_from_is_err_and}
+use Rattle.capture.specs.Line.{wrong}
+use Rattle.capture.proofs.LineLaws.{empty_line, full_line, stamp-none, stamp-some}
 use Rattle.capture.proofs.line.record_in.Goals as goal
 
 -- `line::record_in` meets its contract. Assumes nothing.
-pub returns-then-s-eq0 : goal.returns-then-s-eq0
-returns-then-s-eq0 c = empty_line c.args.line.now c.before_note-s.result.now c.before_note-s.ensures c.if-s-eq0.true
+pub returns-then-is_empty : goal.returns-then-is_empty
+returns-then-is_empty c = empty_line c.args.line.now c.before_note-s.result.now c.before_note-s.ensures c.if-is_empty.ensures
 
-pub returns-in_default-time_in : goal.returns-in_default-time_in
-returns-in_default-time_in c =
-    let s = c.before_note-s.result.now in
-    let line = c.args.line.now in
-    let f = full_line line s c.before_note-s.ensures c.if-s-eq0.false in
-    rw (f, found_none (bytes " ") s (sym c.first_byte.ensures ∙ c.in_default.is), ← c.time_in.ensures, c.in_default-time_in.is)
+pub returns-in_err-ok_or : goal.returns-in_err-ok_or
+returns-in_err-ok_or c =
+    let f = full_line c.args.line.now c.before_note-s.result.now c.before_note-s.ensures c.if-is_empty.ensures in
+    let n = stamp-none c.time_in.result c.in_err-ok_or.field-0.0 (sym c.ok_or.ensures.value ∙ c.in_err-ok_or.was) in
+    let p = err_from_is_err_and c.from_residual.result c.from_residual.ensures.1 in
+    rw (f, ← c.cut_at.ensures, c.in_default.is, ← c.time_in.ensures, n.0, p.1) (ap wrong (p.2 ∙ n.1))
 
 pub returns-in_default : goal.returns-in_default
 returns-in_default c =
-    let s = c.before_note-s.result.now in
-    let line = c.args.line.now in
-    let f = full_line line s c.before_note-s.ensures c.if-s-eq0.false in
-    rw (f, found_none (bytes " ") s (sym c.first_byte.ensures ∙ c.in_default.is), ← c.time_in.ensures, c.in-Time.is)
+    let f = full_line c.args.line.now c.before_note-s.result.now c.before_note-s.ensures c.if-is_empty.ensures in
+    rw (f, ← c.cut_at.ensures, c.in_default.is, ← c.time_in.ensures, stamp-some c.time_in.result c.in_ok-ok_or.field-0 (sym c.ok_or.ensures.value ∙ c.in_ok-ok_or.was))
 
-pub returns-in_default-time_in-2 : goal.returns-in_default-time_in-2
-returns-in_default-time_in-2 c =
-    let s = c.before_note-s.result.now in
-    let line = c.args.line.now in
-    let f = full_line line s c.before_note-s.ensures c.if-s-eq0.false in
-    rw (f, found-cut (bytes " ") s c.in-At.i (sym c.first_byte.ensures ∙ c.in-At.is), ← c.part.ensures, ← c.time_in-2.ensures, c.in_default-time_in-2.is)
-
-pub overflow_add-i : goal.overflow_add-i
-overflow_add-i c =
-    let f = from_at _ _ _ _ (sym c.first_byte.ensures ∙ c.in-At.is) in
-    omega (arith, f.0, f.1)
+pub returns-in_err-time : goal.returns-in_err-time
+returns-in_err-time c =
+    let f = full_line c.args.line.now c.before_note-s.result.now c.before_note-s.ensures c.if-is_empty.ensures in
+    let n = stamp-none c.time_in-2.result c.in_err-time.field-0.0 (sym c.ok_or-2.ensures.value ∙ c.in_err-time.was) in
+    let p = err_from_is_err_and c.from_residual-in_err-time.result c.from_residual-in_err-time.ensures.1 in
+    rw (f, ← c.cut_at.ensures, c.in-Some.is, ← c.time_in-2.ensures, n.0, p.1) (ap wrong (p.2 ∙ n.1))
 
 pub returns : goal.returns
 returns c =
-    let s = c.before_note-s.result.now in
-    let line = c.args.line.now in
-    let f = full_line line s c.before_note-s.ensures c.if-s-eq0.false in
-    rw (f, found-cut (bytes " ") s c.in-At.i (sym c.first_byte.ensures ∙ c.in-At.is), ← c.part.ensures, ← c.time_in-2.ensures, c.in-Time-time_in.is, ← c.part-2.ensures) c.framed.ensures
+    let f = full_line c.args.line.now c.before_note-s.result.now c.before_note-s.ensures c.if-is_empty.ensures in
+    rw (f, ← c.cut_at.ensures, c.in-Some.is, ← c.time_in-2.ensures, stamp-some c.time_in-2.result c.in_ok-time.time (sym c.ok_or-2.ensures.value ∙ c.in_ok-time.was)) c.framed.ensures

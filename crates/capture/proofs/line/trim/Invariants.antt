@@ -1,10 +1,10 @@
-use Rattle.std.proofs.Common.{◌≡◌, ◌≤◌, length, take}
+use Rattle.std.proofs.Common.{◌≡◌, length}
 use Rattle.capture.specs.Line.{trimmed}
 use Rattle.capture.proofs.line.trim.Given as goal
 
--- `line::trim` meets its contract: the blanks from `n` on are not counted. Assumes nothing.
-abbrev pub invariant-loop-n : goal.invariant-loop-n
-invariant-loop-n l = (l.n ≤ length l.s) × (trimmed l.s ≡ trimmed (take l.n l.s))
+-- `line::trim` meets its contract: the blanks that were taken off do not count. Assumes nothing.
+abbrev pub invariant-loop-left : goal.invariant-loop-left
+invariant-loop-left l = trimmed l.s ≡ trimmed l.left
 
-abbrev pub decreases-loop-n : goal.decreases-loop-n
-decreases-loop-n l = l.n
+abbrev pub decreases-loop-left : goal.decreases-loop-left
+decreases-loop-left l = length l.left
