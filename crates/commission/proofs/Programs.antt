@@ -14,27 +14,30 @@ use Rattle.channels.specs.Machine.{Machine, run}
 use Rattle.channels.specs.View.{view}
 use Rattle.commission.specs.Question.{Asked, feeds, asks_row, asks_rows, asks_counts, nothing, asked_in}
 use Rattle.commission.specs.Reply.{after}
-use Rattle.commission.specs.declared.session.Session.{Session}
+use Rattle.lines.specs.declared.output.Out.{Out}
 use Rattle.commission.proofs.session.answered as answered
 
 -- a call that answered a line
 pub record Answering (T : RattleType) (L : Laws T) (g : Print.Ghosts T.Denot) (d : Dict) : Type 0 where
-  pub lifetimes : Lfts 5
+  pub lifetimes : Lfts 6
   pub args : Dens lifetimes (answered.Kinds.ps T L)
-  pub session : Session
-  pub exit : AtExit (ended_of 5 (answered.Kinds.ps T L) (answered.Kinds.r T L)) lifetimes
-  pub allowed : answered.Reads.Post T L g d lifetimes args session exit
+  pub out : Out
+  pub exit : AtExit (ended_of 6 (answered.Kinds.ps T L) (answered.Kinds.r T L)) lifetimes
+  pub allowed : answered.Reads.Post T L g d lifetimes args out exit
 
 abbrev pub table_before : (T : RattleType) (L : Laws T) (g : Print.Ghosts T.Denot) (d : Dict) → Answering T L g d → Channels
-table_before T L g d c = c.args.1.1.1.1.0.table
+table_before T L g d c = c.args.1.1.1.0.now
+
+abbrev pub table_after : (T : RattleType) (L : Laws T) (g : Print.Ghosts T.Denot) (d : Dict) → Answering T L g d → Channels
+table_after T L g d c = c.exit.1.1.1.0.now
 
 abbrev pub asked_by : (T : RattleType) (L : Laws T) (g : Print.Ghosts T.Denot) (d : Dict) → Answering T L g d → Asked
-asked_by T L g d c = asked_in c.args.1.1.1.1.0.is_too_long c.args.1.1.1.0.now
+asked_by T L g d c = asked_in c.args.1.1.1.1.1.0 c.args.1.1.1.1.0.now
 
 -- calls one after the other, each with the table that the one before it left
 pub data Lines (T : RattleType) (L : Laws T) (g : Print.Ghosts T.Denot) (d : Dict) : Channels → Channels → Type 0 where
   none : {t : Channels} → Lines T L g d t t
-  then : {t w : Channels} (c : Answering T L g d) → table_before T L g d c ≡ t → Lines T L g d c.session.table w → Lines T L g d t w
+  then : {t w : Channels} (c : Answering T L g d) → table_before T L g d c ≡ t → Lines T L g d (table_after T L g d c) w → Lines T L g d t w
 
 abbrev pub frame_in : Asked → List (List ℕ)
 frame_in (feeds frame) = frame ∷ []

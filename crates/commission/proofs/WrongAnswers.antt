@@ -3,7 +3,7 @@
 use Prim.Native.Nat.{ℕ, ◌+◌, ◌*◌, ◌/◌, ◌%◌, ◌<◌}
 use mathlib.Core.Path.{◌≡◌}
 use mathlib.Core.List.{List, [], ◌∷◌, ◌++◌}
-use mathlib.Core.Bool.{true, false}
+use mathlib.Core.Bool.{Bool, true, false}
 use native.Mathlib.Omega.{arith}
 use contract.Lifetimes.{Lfts}
 use denote.Param.Laws.{Laws}
@@ -24,7 +24,7 @@ use Rattle.channels.specs.Machine.{Machine, ipv4}
 use Rattle.channels.specs.View.{view}
 use Rattle.commission.specs.Question.{Asked, asks_rows, nothing, asked, asked_in}
 use Rattle.commission.specs.Reply.{row_line, open_rows, after, answer_line}
-use Rattle.commission.specs.declared.session.Session.{Session}
+use Rattle.lines.specs.declared.output.Out.{Out}
 use Rattle.commission.proofs.session.answered as answered
 
 -- the address that a connect event carries is the one that is printed, byte for byte
@@ -39,42 +39,42 @@ address_as_sent channel a b c d port ha hb hc hd =
     let fourth : n % 256 ≡ d = omega arith in
     rw (first, second, third, fourth)
 
-module _ (T : RattleType) (L : Laws T) (g : Print.Ghosts T.Denot) (d : Dict) (κs : Lfts 5) (a : Dens κs (answered.Kinds.ps T L)) (x : Session)
-    (e : AtExit (ended_of 5 (answered.Kinds.ps T L) (answered.Kinds.r T L)) κs) (p : answered.Reads.Post T L g d κs a x e) where
-  abbrev earlier : Session
-  earlier = a.1.1.1.1.0
+module _ (T : RattleType) (L : Laws T) (g : Print.Ghosts T.Denot) (d : Dict) (κs : Lfts 6) (a : Dens κs (answered.Kinds.ps T L)) (x : Out)
+    (e : AtExit (ended_of 6 (answered.Kinds.ps T L) (answered.Kinds.r T L)) κs) (p : answered.Reads.Post T L g d κs a x e) where
+  abbrev gone : Bool
+  gone = a.1.1.1.1.1.0
 
   abbrev line : List ℕ
-  line = a.1.1.1.0.now
+  line = a.1.1.1.1.0.now
 
   abbrev m : Machine
-  m = view earlier.table
+  m = view a.1.1.1.0.now
 
   -- this is written, after what was to be written before, and the table is then this
   abbrev Leaves : List ℕ → Machine → Type 0
-  Leaves r n = Holds a.1.0.now earlier.out r x.out e.1.0.now × (view x.table ≡ n)
+  Leaves r n = Holds a.1.0.now a.1.1.1.1.1.1.0 r x e.1.0.now × (view e.1.1.1.0.now ≡ n)
 
-  leaves : (q : Asked) → asked_in earlier.is_too_long line ≡ q → Leaves (answer_line m q) (after m q)
+  leaves : (q : Asked) → asked_in gone line ≡ q → Leaves (answer_line m q) (after m q)
   leaves q h = rw h at p
 
   -- one that feeds in what no line asks for, or counts it as refused
-  pub bad_line : asked_in earlier.is_too_long line ≡ nothing → Leaves (bytes "what?\n") m
+  pub bad_line : asked_in gone line ≡ nothing → Leaves (bytes "what?\n") m
   bad_line h = leaves nothing h
 
   -- one whose questions change the table
-  pub rows_answered : asked_in earlier.is_too_long line ≡ asks_rows → Leaves (open_rows m 256 ++ bytes "end" ++ bytes "\n") m
+  pub rows_answered : asked_in gone line ≡ asks_rows → Leaves (open_rows m 256 ++ bytes "end" ++ bytes "\n") m
   rows_answered h = leaves asks_rows h
 
   -- one that takes 256 for channel 0; one that takes a sign; one that takes a word with a space too many
-  pub no_channel : earlier.is_too_long ≡ false → line ≡ bytes "row 256" → Leaves (bytes "what?\n") m
+  pub no_channel : gone ≡ false → line ≡ bytes "row 256" → Leaves (bytes "what?\n") m
   unfolding asked_in asked without_cr cut_at first_of starts_with same number_in digits_from
   no_channel h l = bad_line (rw (h, l))
 
-  pub no_sign : earlier.is_too_long ≡ false → line ≡ bytes "row +3" → Leaves (bytes "what?\n") m
+  pub no_sign : gone ≡ false → line ≡ bytes "row +3" → Leaves (bytes "what?\n") m
   unfolding asked_in asked without_cr cut_at first_of starts_with same number_in digits_from
   no_sign h l = bad_line (rw (h, l))
 
   -- one that answers the rest of a line whose front is gone
-  pub front_gone : earlier.is_too_long ≡ true → Leaves (bytes "what?\n") m
+  pub front_gone : gone ≡ true → Leaves (bytes "what?\n") m
   unfolding asked_in
   front_gone h = bad_line (rw h)

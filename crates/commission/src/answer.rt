@@ -7,7 +7,6 @@ ghost use Rattle.commission.specs.Steps.{asked_of};
 
 use crate::put::{put_counts, put_row, put_rows};
 use crate::question::{Question, question_of};
-use crate::table::{counts_of, fed, row_of};
 use channels::Channels;
 use lines::input::without_cr;
 use render::word::word;
@@ -16,53 +15,34 @@ use text::bytes::part;
 // A line with more bytes is too long.
 pub(crate) const LONGEST: usize = 16384;
 
-// The table after the line, and the place just past the answer.
-#[derive(Drop)]
-pub(crate) struct Answered {
-    pub table: Channels,
-    pub place: usize,
-}
-
 // The frame is fed in, and the answer is what it means.
-fn feed(output: &mut [u8], place: usize, s: &[u8], table: Channels) -> Answered
+fn feed(output: &mut [u8], place: usize, s: &[u8], table: &mut Channels) -> usize
     requires { length s.now ≤ 8192 }
-    ensures { Replies (view table) (feeds s.now) output.old place (view result.table) result.place output.new }
+    ensures { Replies (view table.old) (feeds s.now) output.old place (view table.new) result output.new }
 {
-    Answered {
-        table: fed(table, s),
-        place: render::frame::answer(output, place, s, edm::frame::read(s)),
-    }
+    channels::feed(table, s);
+    render::frame::answer(output, place, s, edm::frame::read(s))
 }
 
-// What is answered to a question; the frame's bytes are at the start of `frame`.
+// What is answered to a question, and the place just past it; the frame's bytes are at the start of `frame`.
 fn replied(
     output: &mut [u8],
     place: usize,
     frame: &[u8],
-    question: Question,
-    table: Channels,
-) -> Answered
+    question: Option<Question>,
+    table: &mut Channels,
+) -> usize
     requires { length frame.now ≤ 8192 }
-    ensures { Replies (view table) (asked_of frame.now question) output.old place (view result.table) result.place output.new }
+    ensures { Replies (view table.old) (asked_of frame.now question) output.old place (view table.new) result output.new }
 {
+    let Some(question) = question else {
+        return word(output, place, b"what?");
+    };
     match question {
         Question::Frame(n) => feed(output, place, part(frame, 0, n), table),
-        Question::Row(channel) => Answered {
-            place: put_row(output, place, channel, row_of(&table, channel)),
-            table,
-        },
-        Question::Rows => Answered {
-            place: put_rows(output, place, &table),
-            table,
-        },
-        Question::Counts => Answered {
-            place: put_counts(output, place, counts_of(&table)),
-            table,
-        },
-        Question::Nothing => Answered {
-            table,
-            place: word(output, place, b"what?"),
-        },
+        Question::Row(channel) => put_row(output, place, channel, channels::row(table, channel)),
+        Question::Rows => put_rows(output, place, table),
+        Question::Counts => put_counts(output, place, channels::counts(table)),
     }
 }
 
@@ -73,16 +53,13 @@ pub(crate) fn answer(
     frame: &mut [u8],
     line: &[u8],
     gone: bool,
-    table: Channels,
-) -> Answered
+    table: &mut Channels,
+) -> usize
     requires { length frame.old ≡ 8192 }
-    ensures { Replies (view table) (asked_in gone line.now) output.old place (view result.table) result.place output.new }
+    ensures { Replies (view table.old) (asked_in gone line.now) output.old place (view table.new) result output.new }
 {
-    if gone {
-        return replied(output, place, frame, Question::Nothing, table);
-    }
-    if LONGEST < line.len() {
-        return replied(output, place, frame, Question::Nothing, table);
+    if gone || LONGEST < line.len() {
+        return replied(output, place, frame, None, table);
     }
     let question = question_of(frame, without_cr(line));
     replied(output, place, frame, question, table)

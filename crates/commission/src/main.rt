@@ -6,30 +6,24 @@ mod answer;
 mod put;
 mod question;
 mod session;
-mod table;
 
-use crate::session::run;
-use std::env::{Env, FillError};
-
-// Whether there is an argument beside the program's name.
-fn has_argument(rt: &impl Env) -> bool {
-    let mut given = [0u8; 1];
-    match rt.arg(1, &mut given) {
-        Ok(_) => true,
-        Err(FillError::TooLong) => true,
-        Err(FillError::NotPresent) => false,
-    }
-}
+use crate::session::Desk;
+use lines::args::has_argument;
+use lines::session::run;
 
 // The input holds a longest line and what is read after it, the output the answer to a longest line and those before it. The bytes that a line
 // spells are half as many as its digits.
 fn main(rt: HostRuntime) {
-    if has_argument(&rt) {
+    if has_argument(&rt, 1) {
         let _ = eprintln!(rt; "commission: takes no argument, reads lines from standard input");
         return;
     }
     let mut input = [0u8; 65536];
     let mut output = [0u8; 131072];
     let mut frame = [0u8; 8192];
-    run(&rt, &mut rt.stdin(), &mut input, &mut output, &mut frame);
+    let mut desk = Desk {
+        frame: &mut frame,
+        table: channels::fresh(),
+    };
+    run(&rt, &mut rt.stdin(), &mut input, &mut output, &mut desk, 0);
 }

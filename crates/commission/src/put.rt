@@ -5,7 +5,6 @@ ghost use Rattle.render.specs.Print.{Prints};
 ghost use Rattle.channels.specs.View.{view};
 ghost use Rattle.commission.specs.Reply.{dotted, remote_line, row_line, open_row, open_rows, changes_line, counts_line};
 
-use crate::table::row_of;
 use channels::Channels;
 use channels::cell::{Counts, Row};
 use edm::Channel;
@@ -60,11 +59,9 @@ pub(crate) fn put_rows(output: &mut [u8], at: usize, table: &Channels) -> usize
     ensures { Prints output.old at (open_rows (view table.now) 256 ++ bytes "end") result output.new × (length (open_rows (view table.now) 256) ≤ 9216) }
 {
     let mut to = at;
-    let mut i: usize = 0;
-    while i < 256 {
+    for i in 0..256usize {
         let channel = Channel(i as u8);
-        to = put_open(output, to, channel, row_of(table, channel));
-        i += 1;
+        to = put_open(output, to, channel, channels::row(table, channel));
     }
     word(output, to, b"end")
 }

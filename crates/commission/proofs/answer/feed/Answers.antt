@@ -9,5 +9,5 @@ returns c =
     record {
       prints = rw c.read.ensures at c.answer.ensures;
       few = omega (arith, c.requires, frame-room s (λ i. omega (arith, c.shared_slice_known-1.given i)));
-      leads = c.fed.ensures;
+      leads = c.feed.ensures;
     }

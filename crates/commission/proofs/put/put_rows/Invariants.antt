@@ -1,4 +1,3 @@
-use Prim.Native.Nat.{◌-◌, ◌≤◌}
 use mathlib.Core.Path.{◌≡◌}
 use lib.ListN.{length}
 use Rattle.channels.specs.View.{view}
@@ -7,7 +6,4 @@ use Rattle.commission.proofs.put.put_rows.Given as goal
 
 -- `put::put_rows` meets its contract. Assumes nothing.
 abbrev pub invariant-loop-i : goal.invariant-loop-i
-invariant-loop-i l = (length l.output ≡ length l.initial.output) × (l.i ≤ 256) × RowsPrinted (view l.table) l.i l.initial.output l.at l.to l.output
-
-abbrev pub decreases-loop-i : goal.decreases-loop-i
-decreases-loop-i l = 256 - l.i
+invariant-loop-i l = (length l.output ≡ length l.initial.output) × RowsPrinted (view l.table) l.i l.initial.output l.at l.to l.output
