@@ -1,5 +1,5 @@
 // Decimal numbers of 8, 16 and 32 bits, read from a text: an optional plus, then one or more digits.
-ghost use Rattle.std.specs.Prelude.{◌≡◌, ℕ, ◌^◌, ◌≤◌, ◌<◌};
+ghost use Rattle.std.specs.Prelude.{◌≡◌, ℕ, ◌^◌, ◌%◌, ◌≤◌, ◌<◌};
 ghost use Rattle.text.specs.Number.{is_digit, digits, signed, number, shown};
 ghost use Rattle.text.specs.NumberSteps.{itself, too_large};
 
@@ -22,10 +22,9 @@ pub trait Width {
     fn limit() -> u64
         ensures { (result ≡ 2 ^ bits) × (0 < result) × (result ≤ 4294967296) };
 
-    // A number below the limit, at this width.
+    // A number at this width: the bits for which it has no room are lost.
     fn narrow(n: u64) -> Self
-        requires { n < 2 ^ bits }
-        ensures { value result ≡ n };
+        ensures { value result ≡ n % 2 ^ bits };
 
     ghost apart: { (a b : Self) → value a ≡ value b → a ≡ b };
 }
@@ -99,7 +98,7 @@ impl Width for u8 {
     }
 
     fn narrow(n: u64) -> u8 {
-        n as u8
+        (n % 256) as u8
     }
 }
 
@@ -115,7 +114,7 @@ impl Width for u16 {
     }
 
     fn narrow(n: u64) -> u16 {
-        n as u16
+        (n % 65536) as u16
     }
 }
 
@@ -131,6 +130,6 @@ impl Width for u32 {
     }
 
     fn narrow(n: u64) -> u32 {
-        n as u32
+        (n % 4294967296) as u32
     }
 }
