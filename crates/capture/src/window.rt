@@ -47,7 +47,7 @@ pub(crate) fn refill(
             is_open: kept < end,
         }),
         Err(e) => {
-            say_failure(rt, "capture: cannot read standard input", Some(e));
+            say_failure(rt, "capture: cannot read standard input", Some(e.why));
             None
         }
     }

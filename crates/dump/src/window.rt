@@ -152,7 +152,7 @@ fn turn(
     let count = match read_full(from, input, d.held) {
         Ok(n) => n,
         Err(e) => {
-            say_failure(rt, "dump: cannot read standard input", Some(e));
+            say_failure(rt, "dump: cannot read standard input", Some(e.why));
             return None;
         }
     };

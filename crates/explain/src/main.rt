@@ -71,7 +71,7 @@ fn explain(rt: &(impl Print + Eprint), from: &mut impl Read, asked: Asked) {
     let mut input = [0u8; 4100];
     let n = match read_full(from, &mut input, 0) {
         Ok(n) => n,
-        Err(e) => return say_failure(rt, "explain: cannot read standard input", Some(e)),
+        Err(e) => return say_failure(rt, "explain: cannot read standard input", Some(e.why)),
     };
     let s = part(&input, 0, n);
     let mut page = InlineText::<524288>::new();

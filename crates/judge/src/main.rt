@@ -33,7 +33,7 @@ fn run(rt: &(impl Print + Eprint + Env), from: &mut impl Read) {
     let count = match read_full(from, &mut input, 0) {
         Ok(n) => n,
         Err(e) => {
-            say_failure(rt, "judge: cannot read standard input", Some(e));
+            say_failure(rt, "judge: cannot read standard input", Some(e.why));
             return;
         }
     };

@@ -5,20 +5,40 @@ use mathlib.Core.Path.{◌≡◌, refl, sym, ap, ◌∙◌}
 use mathlib.Core.List.{List, [], ◌∷◌, ◌++◌}
 use mathlib.Core.Bool.{Bool, true, false, cond, ◌&&◌}
 use native.Mathlib.Omega.{arith}
-use Rattle.std.specs.Prelude.{nat_le, nat_eq, Option, Some, None, unwrap_or, MatchOption, Result, Ok, Err, IfOk}
+use Rattle.std.specs.Prelude.{nat_le, nat_eq, Option, Some, None, unwrap_or, MatchOption}
 use Rattle.std.specs.Cmp.Lexicographic.{pointwise}
 use denote.Ref.{Bor}
 use borrow.Author.Tests.{leb-true, leb-false}
 use native.Mathlib.Nat.{zero-add, min-le_left, min-le_right, min-eq_left}
 use borrow.Rule.Slice.PartMut.{put_mid}
-use lib.ListN.{length, take, drop, length-take, length-drop}
-use lib.Seq.{paste, length-take-le, take_all, take_at, take-take}
+use lib.ListN.{length, take, drop, get_or, set, length-take, length-drop, length-set}
+use native.Mathlib.Numerals.{add-one}
+use lib.Seq.{paste, paste-suc, length-paste, drop-paste, get_or-drop, length-take-le, take_all, take_at, take-take}
 use Rattle.text.specs.Bytes.{bytes, same, part}
 use Rattle.text.specs.Find.{first_from}
 use Rattle.text.proofs.FindLaws.{from_at}
-use Rattle.lines.specs.Input.{place_or, line_end, without_cr, with_front, ReadAfter, Reads}
+use Rattle.lines.specs.Input.{place_or, line_end, without_cr, with_front, ReadAfter}
 
 module _ (b : List ℕ) (start : ℕ) where
+  -- the bytes that are not yet overwritten are still there
+  later_there : (n k : ℕ) (c : List ℕ) → n ≤ k → n ≤ length b - start → c ≡ paste b 0 (drop start b) n → get_or c k 0 ≡ get_or b k 0
+  later_there n k c h l e =
+      let d = length-drop start b in
+      let z = zero-add n in
+      let p : drop n c ≡ drop n b = ap (λ (j : ℕ). drop j c) (sym z) ∙ rw e (drop-paste b 0 (drop start b) n (omega arith) (omega arith)) ∙ ap (λ (j : ℕ). drop j b) z in
+      let q : n + (k - n) ≡ k = omega arith in
+      ap (λ (j : ℕ). get_or c j 0) (sym q) ∙ sym (get_or-drop n c (k - n) 0) ∙ ap (λ (x : List ℕ). get_or x (k - n) 0) p ∙ get_or-drop n b (k - n) 0 ∙ ap (λ (j : ℕ). get_or b j 0) q
+
+  pub moved_more : (n from : ℕ) (c : List ℕ) → from ≡ start + n → from < length b → c ≡ paste b 0 (drop start b) n
+      → (set c n (get_or c from 0) ≡ paste b 0 (drop start b) (n + 1)) × (length (set c n (get_or c from 0)) ≡ length b)
+  moved_more n from c f h e =
+      let d = length-drop start b in
+      let v = later_there n from c (omega arith) (omega arith) e in
+      let w : get_or c from 0 ≡ get_or (drop start b) n 0 = v ∙ ap (λ (j : ℕ). get_or b j 0) f ∙ sym (get_or-drop start b n 0) in (
+        rw (w, e, add-one n) (ap (λ (j : ℕ). set (paste b 0 (drop start b) n) j (get_or (drop start b) n 0)) (sym (zero-add n)) ∙ paste-suc b 0 (drop start b) n 0 (omega arith) (omega arith)),
+        length-set c n (get_or c from 0) ∙ rw e (length-paste b 0 (drop start b) n (omega arith) (omega arith)),
+      )
+
   -- what stands at the front is a part of the buffer, and the rest of it is as it was
   fronted : (n : ℕ) (c p : List ℕ) → p ≡ take n (drop start b) → n ≤ length b - start → c ≡ paste b 0 (drop start b) n → (n ≡ length p) × (c ≡ with_front b p)
   fronted n c p q l e =
@@ -67,19 +87,6 @@ module _ (b c : List ℕ) (kept count : ℕ) (s : take kept c ≡ take kept b) (
 
   pub read_all : length c ≤ count → ReadAfter b kept (length c) c
   read_all g = let m = min-le_right kept (length b) in record { stays = s; keeps = omega arith; fits = omega arith }
-
--- a read that failed after others
-pub still_kept : (b c d : List ℕ) (kept count : ℕ) → take kept c ≡ take kept b → kept ≤ count → take count d ≡ take count c → take kept d ≡ take kept b
-still_kept b c d kept count s h e = sym (take-take kept count d h) ∙ ap (take kept) e ∙ take-take kept count c h ∙ s
-
--- what every read keeps, and how much it counts
-pub reads-stay : {E : Type 0} (b : List ℕ) (kept : ℕ) (r : Result ℕ E) (c : List ℕ) → Reads b kept r c → take kept c ≡ take kept b
-reads-stay b kept (Ok n) c h = h.stays
-reads-stay b kept (Err e) c h = h
-
-pub reads-fit : {E : Type 0} (b : List ℕ) (kept : ℕ) (r : Result ℕ E) (c : List ℕ) → Reads b kept r c → IfOk r (λ n. n ≤ length b)
-reads-fit b kept (Ok n) c h = h.fits
-reads-fit b kept (Err e) c h = tt
 
 -- the place that was found, or the end
 pub place_there : (s : List ℕ) (from : ℕ) (o : Option ℕ) → o ≡ first_from (bytes "\n") s from

@@ -18,13 +18,12 @@ use Rattle.text.specs.Find.{first_of, first_from}
 use Rattle.text.specs.Number.{digits_from}
 use Rattle.lines.specs.Hex.{pairs, bytes_in}
 use Rattle.lines.specs.Number.{number_in}
-use Rattle.lines.specs.Input.{without_cr}
-use Rattle.std.specs.Prelude.{Option, Some, None, Result, Ok, Err, IsSome, IfOk}
-use Rattle.std.specs.declared.io.Error.{Error}
+use Rattle.lines.specs.Input.{without_cr, at_hand}
+use Rattle.std.specs.Prelude.{Option, Some, None, Result, Ok, Err, IsSome}
 use Rattle.lines.specs.declared.hex.HexError.{HexError}
 use Rattle.lines.specs.declared.hex.HexError.TheVariants.{NoHex, NoRoom}
+use Rattle.lines.specs.declared.input.Unread.{Unread}
 use Rattle.lines.specs.declared.output.Out.{Out}
-use Rattle.lines.proofs.InputLaws.{reads-stay, reads-fit}
 use Rattle.lines.proofs.OneOutcome.{number_injective}
 use Rattle.lines.proofs.hex.decode as decode
 use Rattle.lines.proofs.number.decimal as decimal
@@ -97,21 +96,21 @@ module _ (κs : Lfts 1) (a : Dens κs move_to_front.Kinds.ps) (x : ℕ) (e : AtE
   past_the_buffer f g = rw (s, f, g) at p
 
 -- one that reads over the bytes that are kept, and one that counts what had no room
-module _ (T : RattleType) (L : Laws T) (g : Read.Ghosts T.Denot) (d : Dict) (κs : Lfts 3) (a : Dens κs (read_after.Kinds.ps T L)) (x : Result ℕ Error) (e : AtExit (ended_of 3 (read_after.Kinds.ps T L) (read_after.Kinds.r T L)) κs) (p : read_after.Reads.Post T L g d κs a x e)
+module _ (T : RattleType) (L : Laws T) (g : Read.Ghosts T.Denot) (d : Dict) (κs : Lfts 3) (a : Dens κs (read_after.Kinds.ps T L)) (x : Result ℕ Unread) (e : AtExit (ended_of 3 (read_after.Kinds.ps T L) (read_after.Kinds.r T L)) κs) (p : read_after.Reads.Post T L g d κs a x e)
     (s : a.1.0.now ≡ hex "AA BB") where
   pub kept_byte : a.1.1.0 ≡ 1 → take 1 e.1.0.now ≡ hex "AA"
-  kept_byte k = rw (s, k) at (reads-stay _ _ x _ p)
+  kept_byte k = (rw (s, k) at p).stays
 
-  pub no-more_than_room : IfOk x (λ n. n ≤ 2)
-  no-more_than_room = rw s at (reads-fit _ _ x _ p)
+  pub no-more_than_room : at_hand x ≤ 2
+  no-more_than_room = (rw s at p).fits
 
-module _ (T : RattleType) (L : Laws T) (g : Read.Ghosts T.Denot) (d : Dict) (κs : Lfts 3) (a : Dens κs (read_full.Kinds.ps T L)) (x : Result ℕ Error) (e : AtExit (ended_of 3 (read_full.Kinds.ps T L) (read_full.Kinds.r T L)) κs) (p : read_full.Reads.Post T L g d κs a x e)
+module _ (T : RattleType) (L : Laws T) (g : Read.Ghosts T.Denot) (d : Dict) (κs : Lfts 3) (a : Dens κs (read_full.Kinds.ps T L)) (x : Result ℕ Unread) (e : AtExit (ended_of 3 (read_full.Kinds.ps T L) (read_full.Kinds.r T L)) κs) (p : read_full.Reads.Post T L g d κs a x e)
     (s : a.1.0.now ≡ hex "AA BB") where
   pub full_kept-byte : a.1.1.0 ≡ 1 → take 1 e.1.0.now ≡ hex "AA"
-  full_kept-byte k = rw (s, k) at (reads-stay _ _ x _ p)
+  full_kept-byte k = (rw (s, k) at p).stays
 
-  pub full_no-more_than_room : IfOk x (λ n. n ≤ 2)
-  full_no-more_than_room = rw s at (reads-fit _ _ x _ p)
+  pub full_no-more_than_room : at_hand x ≤ 2
+  full_no-more_than_room = (rw s at p).fits
 
 -- one that writes what may still leave room, or does not write what may leave none; one that goes on with what it has written; one that tries again
 module _ (T : RattleType) (L : Laws T) (g : Print.Ghosts T.Denot) (d : Dict) (κs : Lfts 3) (a : Dens κs (with_room.Kinds.ps T L)) (x : Out) (e : AtExit (ended_of 3 (with_room.Kinds.ps T L) (with_room.Kinds.r T L)) κs) (p : with_room.Reads.Post T L g d κs a x e) where

@@ -2,6 +2,7 @@
 use Rattle.std.specs.Prelude.{ℕ, ◌-◌, ◌≤◌, min, ◌≡◌, List, ◌++◌, cond, length, take, drop, Option, Some, None, Result, Ok, Err}
 use Rattle.text.specs.Bytes.{bytes, same}
 use Rattle.text.specs.Find.{first_from}
+use Rattle.lines.specs.declared.input.Unread.{Unread}
 
 -- the place that was found, or else
 abbrev pub place_or : ℕ → Option ℕ → ℕ
@@ -19,13 +20,14 @@ without_cr line = cond (same (drop (length line - 1) line) (bytes "\r")) (take (
 abbrev pub with_front : List ℕ → List ℕ → List ℕ
 with_front buf front = front ++ drop (length front) buf
 
--- a read that goes after the first `kept` bytes of a buffer: these stay as they are, and `count` bytes are at hand, these and what was read
+-- a read that goes after the first `kept` bytes of a buffer: these stay as they are, and `count` bytes are at hand, these and what was read. It is so
+-- where the system fails to read too
 pub record ReadAfter (buf : List ℕ) (kept count : ℕ) (exit : List ℕ) : Type 0 where
   pub stays : take kept exit ≡ take kept buf
   pub keeps : min kept (length buf) ≤ count
   pub fits : count ≤ length buf
 
--- where the system fails to read, the first `kept` bytes stay as they are too
-abbrev pub Reads : {E : Type 0} → List ℕ → ℕ → Result ℕ E → List ℕ → Type 0
-Reads buf kept (Ok count) exit = ReadAfter buf kept count exit
-Reads buf kept (Err e) exit = take kept exit ≡ take kept buf
+-- how many bytes are at hand after a read, also after one that failed
+abbrev pub at_hand : Result ℕ Unread → ℕ
+at_hand (Ok count) = count
+at_hand (Err u) = u.count

@@ -1,26 +1,35 @@
 // Standard input, in pieces as large as they come.
 ghost use Rattle.std.specs.Prelude.{◌-◌, ◌≤◌, ◌<◌, ◌≡◌, length};
 ghost use Rattle.text.specs.Bytes.{part};
-ghost use Rattle.lines.specs.Input.{line_end, without_cr, with_front, Reads};
+ghost use Rattle.lines.specs.Input.{line_end, without_cr, with_front, ReadAfter, at_hand};
 
 use std::io;
 use std::io::Read;
 use text::find::first_byte;
 
+// Why no more could be read, and how many bytes there are all the same.
+#[derive(Clone, Copy)]
+pub struct Unread {
+    pub count: usize,
+    pub why: io::Error,
+}
+
 // Reads once, after the bytes that are kept, and answers how many there are then.
-pub fn read_after<R: Read>(from: &mut R, input: &mut [u8], kept: usize) -> io::Result<usize>
-    ensures { Reads input.old kept result input.new }
+pub fn read_after<R: Read>(from: &mut R, input: &mut [u8], kept: usize) -> Result<usize, Unread>
+    ensures { ReadAfter input.old kept (at_hand result) input.new }
 {
     if input.len() < kept {
         return Ok(input.len());
     }
-    let n = from.read(&mut input[kept..])?;
-    Ok(kept + n)
+    match from.read(&mut input[kept..]) {
+        Ok(n) => Ok(kept + n),
+        Err(why) => Err(Unread { count: kept, why }),
+    }
 }
 
 // Reads until the buffer is full or the input ends, after the bytes that are kept, and answers how many there are then.
-pub fn read_full<R: Read>(from: &mut R, input: &mut [u8], kept: usize) -> io::Result<usize>
-    ensures { Reads input.old kept result input.new }
+pub fn read_full<R: Read>(from: &mut R, input: &mut [u8], kept: usize) -> Result<usize, Unread>
+    ensures { ReadAfter input.old kept (at_hand result) input.new }
 {
     let mut count = kept;
     while count < input.len() {
@@ -55,6 +64,9 @@ pub fn move_to_front(input: &mut [u8], start: usize, end: usize) -> usize
     if end <= start {
         return 0;
     }
-    input.copy_within(start..end, 0);
+    // A loop, of which the compiler moves many bytes at a time: `copy_within` takes six instructions for each.
+    for i in 0..end - start {
+        input[i] = input[start + i];
+    }
     end - start
 }

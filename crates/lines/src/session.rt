@@ -132,7 +132,7 @@ fn turn<P: Print + Eprint, R: Read, A: Answers>(
     let count = match read_after(from, input, s.kept) {
         Ok(n) => n,
         Err(e) => {
-            say_failure(rt, A::CANNOT_READ, Some(e));
+            say_failure(rt, A::CANNOT_READ, Some(e.why));
             return None;
         }
     };

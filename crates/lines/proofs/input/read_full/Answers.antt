@@ -1,7 +1,7 @@
 use mathlib.Core.Path.{refl}
 use native.Mathlib.Omega.{arith}
 use Rattle.std.proofs.lemmas.Result.{err_from_is_err_and}
-use Rattle.lines.proofs.InputLaws.{still_stays, still_kept, read_more, read_all}
+use Rattle.lines.proofs.InputLaws.{still_stays, read_more, read_all}
 use Rattle.lines.proofs.input.read_full.Goals as goal
 
 pub loop-count-init : goal.loop-count-init
@@ -10,7 +10,7 @@ loop-count-init g c = (refl, omega arith, refl)
 pub returns-in_err-n : goal.returns-in_err-n
 returns-in_err-n g c = let l = c.loop-count in
     let p = err_from_is_err_and c.from_residual.result c.from_residual.ensures.1 in
-    rw p.1 (still_kept c.args.input.now l.input _ c.args.kept l.count l.invariant.0 l.invariant.1 c.in_err-n.ensures)
+    rw (p.1, p.2) (read_more c.args.input.now l.input c.args.kept l.count l.invariant.0 l.invariant.1 l.invariant.2 _ _ c.loop-count-test.true c.in_err-n.ensures).1
 
 pub returns-then-n-count : goal.returns-then-n-count
 returns-then-n-count g c = let a = c.args in
