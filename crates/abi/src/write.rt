@@ -36,7 +36,7 @@ fn line_written(a: Result<usize, EventWriteError>) -> usize
 pub extern "C" fn mirvoncle_write_w26(buf: &mut [u8], src: &[u8], row: &[u64]) -> usize
     ensures { Sends line_base buf.old (line_for (length buf.old) src.now (event_in26 row.now)) result buf.new }
 {
-    match event_in(row, &w26::rows(), 26) {
+    match event_in(row, w26::rows(), 26) {
         Ok(p) => line_written(writer::write_parts::<w26::ATEvent>(buf, src, p)),
         Err(e) => 9223372036854775808 + usize::from(u8::from(e)),
     }
@@ -46,7 +46,7 @@ pub extern "C" fn mirvoncle_write_w26(buf: &mut [u8], src: &[u8], row: &[u64]) -
 pub extern "C" fn mirvoncle_write_w36(buf: &mut [u8], src: &[u8], row: &[u64]) -> usize
     ensures { Sends line_base buf.old (line_for (length buf.old) src.now (event_in36 row.now)) result buf.new }
 {
-    match event_in(row, &w36::rows(), 13) {
+    match event_in(row, w36::rows(), 13) {
         Ok(p) => line_written(writer::write_parts::<w36::ATEvent>(buf, src, p)),
         Err(e) => 9223372036854775808 + usize::from(u8::from(e)),
     }

@@ -110,6 +110,11 @@ abbrev pub Finds : List Row → List ℕ → Option ℕ → Type 0
 Finds rows name (Some i) = (r : Row) × (row_no rows i ≡ good r) × (rows_named rows name ≡ r ∷ rows_named (drop (suc i) rows) name)
 Finds rows name None = rows_named rows name ≡ []
 
+-- the same of the rows from one on: the first of them with the name, up to another row; or none up to that one has it
+abbrev pub FindsBetween : List Row → List ℕ → ℕ → ℕ → Option ℕ → Type 0
+FindsBetween rows name from to (Some i) = (r : Row) × (row_no rows i ≡ good r) × (rows_named (drop from rows) name ≡ r ∷ rows_named (drop (suc i) rows) name)
+FindsBetween rows name from to None = rows_named (drop from rows) name ≡ rows_named (drop to rows) name
+
 -- the letters of a row, and none where there is no row
 abbrev pub letters_in : OrRefused Row → List ℕ
 letters_in (good r) = letters_of r

@@ -1,12 +1,12 @@
 // A table of events in bytes. A row has twenty: the length of its name, the number of its fields, eleven for the name and seven for a letter a
 // field, both filled up with spaces.
-ghost use Rattle.std.specs.Prelude.{List, ◌≡◌, ◌≤◌, ◌<◌, ◌+◌, ◌*◌, length, get_or};
+ghost use Rattle.std.specs.Prelude.{List, ◌≡◌, ◌≤◌, ◌<◌, ◌+◌, ◌*◌, length, get_or, false};
 ghost use Rattle.text.specs.Bytes.{same as sameBytes, part as part_of};
 ghost use Rattle.at.specs.Event.{Row};
 ghost use Rattle.at.specs.Table.{spelled, name_at, letters_at};
 ghost use Rattle.at.specs.Parts.{row_no};
 ghost use Rattle.at.specs.TableSteps.{Tabled};
-ghost use Rattle.at.specs.Steps.{Finds, letters_in};
+ghost use Rattle.at.specs.Steps.{Finds, FindsBetween, letters_in};
 
 use text::bytes::part;
 
@@ -57,18 +57,48 @@ fn stands_at<R: Rows>(at: usize, name: &[u8]) -> bool
     name == &R::bytes()[at..at + name.len()]
 }
 
-// The number of the row that has a name. Most rows differ in length, so it is looked at first.
-pub(crate) fn row_named<R: Rows>(name: &[u8]) -> Option<usize>
-    ensures { Finds R.rows name.now result }
+// Whether a name may stand at a place: the last letter is the same. In line, so that it is held against a letter which the compiler knows.
+#[inline(always)]
+fn ends_alike<R: Rows>(at: usize, name: &[u8]) -> bool
+    requires { at + length name.now ≤ length (spelled R.rows) }
+    ensures { result ≡ false → sameBytes name.now (part_of (spelled R.rows) at (length name.now)) ≡ false }
+{
+    let n = name.len();
+    if n == 0 {
+        return true;
+    }
+    name[n - 1] == R::bytes()[at + n - 1]
+}
+
+// The first row that has a name, of those from one up to another. Most rows differ in length, so it is looked at first, and most of one length in their
+// last letter.
+#[inline(always)]
+fn row_between<R: Rows>(name: &[u8], from: usize, to: usize) -> Option<usize>
+    requires { (from ≤ to) × (to ≤ length R.rows) }
+    ensures { FindsBetween R.rows name.now from to result }
 {
     let table = R::bytes();
-    for row in 0..table.len() / 20 {
+    for row in from..to {
         let at = row * 20;
-        if name.len() == usize::from(table[at]) && stands_at::<R>(at + 2, name) {
+        if name.len() == usize::from(table[at])
+            && ends_alike::<R>(at + 2, name)
+            && stands_at::<R>(at + 2, name)
+        {
             return Some(row);
         }
     }
     None
+}
+
+// The number of the row that has a name. Each half of the rows is short enough for the compiler to write it out row by row.
+pub(crate) fn row_named<R: Rows>(name: &[u8]) -> Option<usize>
+    ensures { Finds R.rows name.now result }
+{
+    let rows = R::bytes().len() / 20;
+    match row_between::<R>(name, 0, rows / 2) {
+        Some(row) => Some(row),
+        None => row_between::<R>(name, rows / 2, rows),
+    }
 }
 
 // The letters of a row's kinds.

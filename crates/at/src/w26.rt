@@ -220,11 +220,12 @@ pub(crate) const UUBTGI: usize = 24;
 
 pub(crate) const UUDPC_BT: usize = 25;
 
-// The same rows in bytes (table.rt), which are what `rows` promises: a table of names and kinds as values would stand beside them.
-pub fn rows() -> [u8; 520]
-    ensures { result ≡ spelled table }
+// The same rows in bytes (table.rt), which are what `rows` promises: a table of names and kinds as values would stand beside them. They are lent where
+// they stand, so that no caller makes a copy.
+pub fn rows() -> &'static [u8]
+    ensures { result.now ≡ spelled table }
 {
-    TABLE
+    &TABLE
 }
 
 // Whether a line is left to the second row of its name, since the first has not its type.

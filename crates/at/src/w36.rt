@@ -99,11 +99,11 @@ const UESODB: usize = 13;
 
 const UESODBF: usize = 14;
 
-// The same rows in bytes (table.rt).
-pub fn rows() -> [u8; 300]
-    ensures { result ≡ spelled rows36 }
+// The same rows in bytes (table.rt), lent where they stand.
+pub fn rows() -> &'static [u8]
+    ensures { result.now ≡ spelled rows36 }
 {
-    TABLE
+    &TABLE
 }
 
 // The event of a row of text, from the fields that were taken for it. No row comes to the last arm.

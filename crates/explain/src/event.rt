@@ -100,7 +100,7 @@ impl Event {
     // The W26 event with a name. Two have the name of the first, and the type of the peer tells them apart.
     pub(crate) fn w26(name: &[u8], peer_type: &[u8]) -> Option<Event> {
         let rows = at::w26::rows();
-        let row = (0..W26_ROWS).find(|row| name_at(&rows, *row) == name)?;
+        let row = (0..W26_ROWS).find(|row| name_at(rows, *row) == name)?;
         if row == UUDPC_IP && peer_type == b"1".as_slice() {
             return Some(Event::W26(UUDPC_BT));
         }
@@ -109,7 +109,7 @@ impl Event {
 
     pub(crate) fn w36(name: &[u8]) -> Option<Event> {
         let rows = at::w36::rows();
-        let row = (0..W36_ROWS).find(|row| name_at(&rows, *row) == name)?;
+        let row = (0..W36_ROWS).find(|row| name_at(rows, *row) == name)?;
         Some(Event::W36(row))
     }
 
@@ -129,8 +129,8 @@ impl Event {
     pub(crate) fn kind_of(self, i: u8) -> Option<FieldKind> {
         let before = usize::from(i).checked_sub(1)?;
         let letter = match self {
-            Event::W26(row) => kinds_at(&at::w26::rows(), row).get(before).copied(),
-            Event::W36(row) => kinds_at(&at::w36::rows(), row).get(before).copied(),
+            Event::W26(row) => kinds_at(at::w26::rows(), row).get(before).copied(),
+            Event::W36(row) => kinds_at(at::w36::rows(), row).get(before).copied(),
         };
         letter.map(FieldKind::by_letter)
     }

@@ -49,8 +49,7 @@ impl RadioEvent for ATEvent {
     ghost says = { event_of };
 
     fn print(self, buf: &mut [u8], at: usize, src: &[u8]) -> usize {
-        let table = rows();
         let at = word(buf, at, case_name(self));
-        fields(buf, at, src, &table, Parts::from(self))
+        fields(buf, at, src, rows(), Parts::from(self))
     }
 }

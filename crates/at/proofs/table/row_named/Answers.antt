@@ -1,63 +1,28 @@
-use Prim.Native.Nat.{ℕ, suc, ◌+◌, ◌*◌, ◌/◌, ◌≤◌, ◌<◌}
-use mathlib.Core.Path.{◌≡◌, refl, sym, ◌∙◌}
-use mathlib.Core.List.{List, ◌∷◌}
-use mathlib.Core.Bool.{Bool, false}
-use native.Mathlib.Numerals.{add-one}
+use Prim.Native.Nat.{ℕ, ◌≤◌}
+use mathlib.Core.Path.{◌≡◌, ◌∙◌}
+use mathlib.Core.List.{List}
 use native.Mathlib.Omega.{arith}
-use lib.ListN.{get_or, length, drop, drop_of_length-le}
-use Rattle.text.specs.Bytes.{same, part}
-use Rattle.text.proofs.BytesLaws.{same_length}
-use Rattle.at.specs.Refusal.{good}
-use Rattle.at.specs.Event.{Row, name_of}
+use lib.ListN.{length, drop, drop_of_length-le}
+use Rattle.std.specs.Prelude.{Option, Some, None}
+use Rattle.at.specs.Event.{Row}
 use Rattle.at.specs.Line.{rows_named}
-use Rattle.at.specs.TableSteps.{Tabled}
-use Rattle.at.specs.Parts.{row_no}
-use Rattle.at.proofs.LineLaws.{row-found, row-passed}
-use Rattle.at.proofs.TableLaws.{sized, Stands, stands, held}
+use Rattle.at.specs.Steps.{Finds, FindsBetween}
+use Rattle.at.proofs.TableLaws.{sized}
 use Rattle.at.proofs.table.row_named.Goals as goal
-use Rattle.at.proofs.table.row_named.Goals.{else-name-from-via-then-name-from+else-stands_at, else-name-from-via-else-name-from}
 
-abbrev Named : List ℕ → ℕ → List Row → Type 0
-Named table row rows = (r : Row) × (row_no rows row ≡ good r) × (drop row rows ≡ r ∷ drop (suc row) rows) × Stands table row r
-
--- a row of the table
-here : (rows : List Row) (table : List ℕ) (row : ℕ) → Tabled rows table → row < length table / 20 → Named table row rows
-here rows table row t h = stands rows table row t (omega (arith, sized rows table t, h))
-
--- its name is held against the one that is looked for, where they are of one length
-tested : (table name : List ℕ) (row : ℕ) (r : Row) → Stands table row r → length name ≡ get_or table (row * 20) 0 → (k : Bool) → k ≡ same name (part table (row * 20 + 2) (length name))
-    → same name (name_of r) ≡ k
-tested table name row r st l k e = sym (e ∙ held table name row r (row * 20) (length name) st refl (l ∙ st.name_length))
-
-pub stands_at-requires : goal.stands_at-requires
-stands_at-requires g c =
-    let r = (here g.R.Rows.rows _ c.loop-row.row c.bytes-table.ensures c.loop-row-test.true).3 in
-    rw (← c.bytes-table.ensures.spells) (omega (arith, c.from.ensures, c.if-name-from.true, r.name_length, r.name_room, r.fits))
-
-pub returns-then-stands_at : goal.returns-then-stands_at
-returns-then-stands_at g c =
-    let rows = g.R.Rows.rows in
-    let q = here rows _ c.loop-row.row c.bytes-table.ensures c.loop-row-test.true in
-    let e = tested _ _ _ q.0 q.3 (c.if-name-from.true ∙ c.from.ensures) _ (rw (← c.bytes-table.ensures.spells) at c.stands_at.ensures) ∙ c.if-stands_at.true in
-    (q.0, q.1, c.loop-row.invariant ∙ rw q.2 (row-found q.0 (drop (suc c.loop-row.row) rows) _ e))
-
-pub loop-row-preserved : goal.loop-row-preserved
-loop-row-preserved g c =
-    let rows = g.R.Rows.rows in
-    let q = here rows _ c.loop-row.row c.bytes-table.ensures c.loop-row-test.true in
-    let passed : same c.args.name.now (name_of q.0) ≡ false → rows_named rows c.args.name.now ≡ rows_named (drop (c.loop-row.row + 1) rows) c.args.name.now
-    = λ e. c.loop-row.invariant ∙ rw (q.2, add-one) (row-passed q.0 (drop (suc c.loop-row.row) rows) c.args.name.now e) in
-    elim c.else-name-from.branch [
-      | else-name-from-via-then-name-from+else-stands_at w ↦ passed (tested _ _ _ q.0 q.3 (w.if-name-from.true ∙ c.from.ensures) _ (rw (← c.bytes-table.ensures.spells) at w.stands_at.ensures) ∙ w.if-stands_at.false)
-      | else-name-from-via-else-name-from w ↦ passed (same_length _ _ (λ e. w.if-name-from.false (e ∙ sym q.3.name_length ∙ sym c.from.ensures)))
-    ]
-
-pub loop-row-init : goal.loop-row-init
-loop-row-init g c = refl
-
-pub returns : goal.returns
+-- no row of the first half has the name
+later : (rows : List Row) (name : List ℕ) (half all : ℕ) (o : Option ℕ) → rows_named rows name ≡ rows_named (drop half rows) name → length rows ≤ all
+    → FindsBetween rows name half all o → Finds rows name o
 unfolding rows_named
-returns g c =
-    let rows = g.R.Rows.rows in
-    let end : length rows ≤ c.loop-row.row = omega (arith, sized rows _ c.bytes-table.ensures, c.loop-row-test.false) in
-    c.loop-row.invariant ∙ rw (drop_of_length-le rows end)
+later rows name half all (Some i) e l f = (f.0, f.1, e ∙ f.2)
+later rows name half all None e l f = e ∙ f ∙ rw (drop_of_length-le rows l)
+
+pub row_between-requires : goal.row_between-requires
+row_between-requires g c = (omega arith, omega (arith, sized g.R.Rows.rows _ c.bytes.ensures))
+
+pub row_between-requires-in-None : goal.row_between-requires-in-None
+row_between-requires-in-None g c = (omega arith, omega (arith, sized g.R.Rows.rows _ c.bytes.ensures))
+
+pub returns-in-None : goal.returns-in-None
+returns-in-None g c =
+    later g.R.Rows.rows c.args.name.now _ _ c.row_between-in-None.result (rw c.in-None.is at c.row_between.ensures) (omega (arith, sized g.R.Rows.rows _ c.bytes.ensures)) c.row_between-in-None.ensures

@@ -1,8 +1,0 @@
-use mathlib.Core.Path.{◌≡◌}
-use lib.ListN.{drop}
-use Rattle.at.specs.Line.{rows_named}
-use Rattle.at.proofs.table.row_named.Given as goal
-
--- `table::row_named` meets its contract: no row before `row` has the name. Assumes nothing.
-abbrev pub invariant-loop-row : goal.invariant-loop-row
-invariant-loop-row g l = rows_named g.R.Rows.rows l.name ≡ rows_named (drop l.row g.R.Rows.rows) l.name
