@@ -13,6 +13,7 @@ use at::AtPacketError;
 use at::response::ATResponse;
 use checks::Refused;
 use checks::part::PartWalk;
+use checks::refusal::edm_number;
 use edm::EdmPacketError;
 use std::fmt;
 use std::fmt::{Formatter, Write};
@@ -133,7 +134,7 @@ fn write_refusal<F: Form, W: Write>(
         byte,
     };
     F::reason(to, byte, format_args!("{required}{instead}"))?;
-    let number = u8::from(error);
+    let number = edm_number(error);
     let name = error_name(error);
     F::paragraph(to, format_args!("Refusal {number}, {name}"))?;
     F::gap(to)?;

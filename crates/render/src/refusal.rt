@@ -13,6 +13,7 @@ ghost use Rattle.render.specs.Walk.{place_line};
 
 use crate::word::{place_after, word};
 use at::AtPacketError;
+use checks::refusal::{at_number, edm_number};
 use edm::EdmPacketError;
 use pcap::CaptureError;
 use scan::ScanError;
@@ -97,7 +98,7 @@ impl Refusal for EdmPacketError {
     ghost line = { λ e. frame_refused_line (frames.refusal_no e) };
 
     fn number(self) -> u8 {
-        u8::from(self)
+        edm_number(self)
     }
 
     fn print(self, buf: &mut [u8], at: usize) -> usize {
@@ -112,7 +113,7 @@ impl Refusal for AtPacketError {
     ghost line = { λ e. refused_line (events.refusal_no e) };
 
     fn number(self) -> u8 {
-        u8::from(self)
+        at_number(self)
     }
 
     fn print(self, buf: &mut [u8], at: usize) -> usize {
