@@ -2,7 +2,7 @@
 use crate::fields::Row;
 use crate::form::Form;
 use crate::marks::{Owner, Owners};
-use crate::show::readable;
+use crate::show::{readable, write_hex};
 use crate::style::{COLOURS, DUMP_LAYOUT, LAYOUT};
 use std::fmt;
 use std::fmt::{Display, Formatter, Write};
@@ -47,8 +47,13 @@ fn write_byte<W: Write>(to: &mut W, byte: Option<u8>) -> fmt::Result {
     let Some(b) = byte else {
         return to.write_str("end<span> </span>");
     };
-    write!(to, "{b:02X}<span>")?;
-    write_escaped(to, readable(b))?;
+    write_hex(to, b)?;
+    to.write_str("<span>")?;
+    let shown = readable(b);
+    match entity(shown) {
+        Some(name) => to.write_str(name)?,
+        None => to.write_char(shown)?,
+    }
     to.write_str("</span>")
 }
 

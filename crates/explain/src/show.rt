@@ -1,6 +1,14 @@
 // How bytes and counts are shown on a page.
 use std::fmt;
 
+const DIGITS: [u8; 16] = *b"0123456789ABCDEF";
+
+// A byte in hex. Digit by digit: to print it as a number takes several times as long, and a page has thousands of them.
+pub(crate) fn write_hex<W: fmt::Write>(to: &mut W, b: u8) -> fmt::Result {
+    to.write_char(char::from(DIGITS[usize::from(b / 16)]))?;
+    to.write_char(char::from(DIGITS[usize::from(b % 16)]))
+}
+
 // Bytes in hex, one after the other.
 #[derive(Clone, Copy)]
 pub(crate) struct Hex<'a>(pub &'a [u8]);
@@ -8,7 +16,7 @@ pub(crate) struct Hex<'a>(pub &'a [u8]);
 impl<'a> fmt::Display for Hex<'a> {
     fn fmt<W: fmt::Write>(&self, f: &mut fmt::Formatter<W>) -> fmt::Result {
         for b in self.0 {
-            write!(f, "{b:02X}")?;
+            write_hex(f, *b)?;
         }
         Ok(())
     }
@@ -61,7 +69,8 @@ impl<'a> fmt::Display for Quoted<'a> {
             if is_plain(*b) {
                 f.write_char(char::from(*b))?;
             } else {
-                write!(f, "\\x{b:02X}")?;
+                f.write_str("\\x")?;
+                write_hex(f, *b)?;
             }
         }
         f.write_str(if n < self.text.len() { "\".." } else { "\"" })

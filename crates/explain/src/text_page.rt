@@ -2,7 +2,7 @@
 use crate::fields::Row;
 use crate::form::Form;
 use crate::marks::{Owner, Owners};
-use crate::show::readable;
+use crate::show::{readable, write_hex};
 use std::fmt;
 use std::fmt::{Display, Formatter, InlineText, Write};
 use text::bytes::part;
@@ -20,7 +20,10 @@ impl<'a> Display for HexColumns<'a> {
     fn fmt<W: Write>(&self, f: &mut Formatter<W>) -> fmt::Result {
         for i in 0..16usize {
             match self.0.get(i) {
-                Some(b) => write!(f, "{b:02X} ")?,
+                Some(b) => {
+                    write_hex(f, *b)?;
+                    f.write_str(" ")?;
+                }
                 None => f.write_str("   ")?,
             }
         }
