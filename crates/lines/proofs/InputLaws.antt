@@ -11,7 +11,7 @@ use denote.Ref.{Bor}
 use borrow.Author.Tests.{leb-true, leb-false}
 use native.Mathlib.Nat.{zero-add, min-le_left, min-le_right, min-eq_left}
 use borrow.Rule.Slice.PartMut.{put_mid}
-use lib.ListN.{length, take, drop, get_or, set, length-take, length-drop, length-set}
+use lib.ListN.{length, take, drop, get_or, set, take-append-drop, length-take, length-drop, length-set}
 use native.Mathlib.Numerals.{add-one}
 use lib.Seq.{paste, paste-suc, length-paste, drop-paste, get_or-drop, length-take-le, take_all, take_at, take-take}
 use Rattle.text.specs.Bytes.{bytes, same, part}
@@ -64,6 +64,15 @@ module _ (b : List ℕ) (start : ℕ) where
 
     pub moved_none : min end (length b) ≤ start → (0 ≡ length (part b start (end - start))) × (b ≡ with_front b (part b start (end - start)))
     moved_none h = let z : min end (length b) - start ≡ 0 = omega arith in rw (part_cut end, z) (refl, refl)
+
+-- what stands at the front already
+pub moved_nowhere : (b : List ℕ) (end : ℕ) → 0 < min end (length b) → (min end (length b) ≡ length (part b 0 (end - 0))) × (b ≡ with_front b (part b 0 (end - 0)))
+moved_nowhere b end h =
+    let n = min end (length b) - 0 in
+    let whole : b ≡ paste b 0 (drop 0 b) n = sym (ap (λ (j : ℕ). take n b ++ drop j b) (zero-add n) ∙ take-append-drop n b) in
+    let there = moved b 0 end h b whole in
+    let all : min end (length b) ≡ n = omega arith in
+    (all ∙ there.0, there.1)
 
 pub after_a_read : (kept k n : ℕ) (b read : List ℕ) → kept ≤ length b → kept + n ≤ length b → ReadAfter b kept (kept + n) (put_mid kept k b read)
 after_a_read kept k n b read h l =

@@ -64,6 +64,10 @@ pub fn move_to_front(input: &mut [u8], start: usize, end: usize) -> usize
     if end <= start {
         return 0;
     }
+    // A line in pieces stands at the front already.
+    if start == 0 {
+        return end;
+    }
     // A loop, of which the compiler moves many bytes at a time: `copy_within` takes six instructions for each.
     for i in 0..end - start {
         input[i] = input[start + i];

@@ -3,13 +3,17 @@ use Prim.Native.Nat.{◌+◌, ◌-◌}
 use native.Mathlib.Omega.{arith}
 use native.Mathlib.Nat.{min-le_right}
 use lib.ListN.{length}
-use Rattle.lines.proofs.InputLaws.{moved, moved_none, moved_more}
+use Rattle.lines.proofs.InputLaws.{moved, moved_none, moved_nowhere, moved_more}
 use Rattle.lines.proofs.input.move_to_front.Goals as goal
 
 -- `move_to_front` meets its contract.
 pub returns-then-end-start : goal.returns-then-end-start
 returns-then-end-start c = let a = c.args in
     moved_none a.input.now a.start a.end (rw c.min-end.ensures at c.if-end-start.true)
+
+pub returns-then-start-eq0 : goal.returns-then-start-eq0
+returns-then-start-eq0 c = let a = c.args in
+    rw (c.min-end.ensures, c.if-start-eq0.true) (moved_nowhere a.input.now a.end (rw (c.min-end.ensures, c.if-start-eq0.true) at c.if-end-start.false))
 
 pub loop-i-preserved : goal.loop-i-preserved
 loop-i-preserved c = let a = c.args in
