@@ -54,6 +54,8 @@ fn hand_w26(row: &mut [u64], e: w26::ATEvent, past: usize)
     }
 }
 
+// In line: the parts of the event then take no frame of their own, and a read takes less stack.
+#[inline(always)]
 fn hand_w36(row: &mut [u64], e: w36::ATEvent, past: usize)
     ensures { row.new ≡ handed row.old (0 ∷ read_numbers of36.rows36 (event_to (of36.event_of e) past)) }
 {
