@@ -1,5 +1,5 @@
 -- What is computed once over each table: its names and letters have room in a row, its letters say its kinds, no row stands twice, and no name of the
--- W36 rows does.
+-- W36 rows does; and how many bytes the tables have.
 use mathlib.Core.Path.{◌≡◌, refl}
 use mathlib.Core.Bool.{true}
 use lib.ListN.{length, take, drop}
@@ -59,6 +59,15 @@ firsts_w26 = refl
 pub firsts_w36 : firsts w36.rows36 0 w36.rows36 ≡ true
 unfolding firsts number_in same w36.table w36.binary_table w36.rows36
 firsts_w36 = refl
+
+-- how many bytes `rows` lends, for a caller that copies or indexes them
+pub lent-w26 : length (spelled w26.table) ≡ 520
+unfolding spelled w26.table
+lent-w26 = refl
+
+pub lent-w36 : length (spelled w36.rows36) ≡ 300
+unfolding spelled w36.table w36.binary_table w36.rows36
+lent-w36 = refl
 
 -- the bytes of the code are those of each table; of W36, the first 260 are those of its rows of text
 pub bytes-w26 : Tabled w26.table of26.TABLE
